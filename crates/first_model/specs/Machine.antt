@@ -117,7 +117,7 @@ forks g fiber others place body work s =
             quietly (record t {
               fibers = t.fibers ++ record { work = Run body ∷ []; scope = fiber.scope; home = Some n; ended = false } ∷ [];
               ready = h ∷ g ∷ others;
-              live = s.live + 1
+              live = s.live + 1;
             }))
       ]
     ]
@@ -190,5 +190,5 @@ opening main = record {
   switches = [];
   live = 1;
   contexts = 1;
-  halted = false
+  halted = false;
 }

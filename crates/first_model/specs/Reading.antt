@@ -40,12 +40,12 @@ unfoldable pub parsed : List ℕ → Option Parsed
 parsed bytes =
     if starts_with nat_eq bytes (codes ")") then Some (record { phrase = Closes; rest = drop 1 bytes })
     else
-      (if starts_with nat_eq bytes (codes " (yield)") then Some (record { phrase = Yields; rest = drop 8 bytes })
-      else
-        (if starts_with nat_eq bytes (codes " (trace \"") then said (drop 9 bytes)
-        else
-          (if starts_with nat_eq bytes (codes " (switch ") then opened Switching (drop 9 bytes)
-          else (if starts_with nat_eq bytes (codes " (fork ") then opened Forking (drop 7 bytes) else None))))
+    (if starts_with nat_eq bytes (codes " (yield)") then Some (record { phrase = Yields; rest = drop 8 bytes })
+    else
+    (if starts_with nat_eq bytes (codes " (trace \"") then said (drop 9 bytes)
+    else
+    (if starts_with nat_eq bytes (codes " (switch ") then opened Switching (drop 9 bytes)
+    else (if starts_with nat_eq bytes (codes " (fork ") then opened Forking (drop 7 bytes) else None))))
 
 -- how many lists are open behind a phrase, where one more than `depth` are before it; no list is opened where 64 are
 abbrev pub open_after : Phrase → ℕ → Option ℕ

@@ -43,10 +43,10 @@ abbrev pub head_of : List ℕ → Head
 head_of word =
     if bytes_eq word (codes "switch") then SwitchHead
     else
-      (if bytes_eq word (codes "fork") then ForkHead
-      else
-        (if bytes_eq word (codes "trace") then TraceHead
-        else (if bytes_eq word (codes "yield") then YieldHead else OtherHead)))
+    (if bytes_eq word (codes "fork") then ForkHead
+    else
+    (if bytes_eq word (codes "trace") then TraceHead
+    else (if bytes_eq word (codes "yield") then YieldHead else OtherHead)))
 
 unfoldable mutual
   pub statement : Scope → Tree → Option Statement

@@ -43,10 +43,10 @@ abbrev pub escaped : ℕ → List ℕ
 escaped b =
     if b == 10 then 92 ∷ 110 ∷ []
     else
-      (if b == 13 then 92 ∷ 114 ∷ []
-      else
-        (if b == 9 then 92 ∷ 116 ∷ []
-        else (if b == 34 || b == 92 then 92 ∷ b ∷ [] else b ∷ [])))
+    (if b == 13 then 92 ∷ 114 ∷ []
+    else
+    (if b == 9 then 92 ∷ 116 ∷ []
+    else (if b == 34 || b == 92 then 92 ∷ b ∷ [] else b ∷ [])))
 
 abbrev pub quoted : List ℕ → List ℕ
 quoted text = 34 ∷ (flat_map escaped text ++ 34 ∷ [])
