@@ -1,7 +1,8 @@
 -- What several writes append together, and which fronts of it.
 use Rattle.std.proofs.Common.{◌≡◌, ℕ, ◌+◌, ◌-◌, ◌≤◌, min, List, [], ◌++◌, length, take, drop, None, Some, ap, subst, sym, ◌∙◌, append-nil, arith}
 use Rattle.std.proofs.lemmas.Grind.{common_steps}
-use Rattle.std.proofs.Math.Seq.{take-add}
+use Rattle.std.proofs.lemmas.List.{take_min, take-append-le}
+use Rattle.std.proofs.Math.Seq.{take-add, take-append-add, take-length}
 use Rattle.std.proofs.KnownBytes.{Appends-trans}
 use Rattle.std.specs.declared.option.Option.{Option}
 use Rattle.std.specs.Io.KnownBytes.{Appends}
@@ -24,9 +25,7 @@ appends_none (Some xs) = sym (append-nil xs)
 
 -- the whole is a front of itself
 pub front_of_whole : (old new : Option (List ℕ)) (bs : List ℕ) → Appends old new bs → AppendsFront old new bs
-front_of_whole old new bs whole =
-    let all : bs ≡ take (length bs) bs = grind (arith, common_steps) in
-    (length bs, subst (Appends old new) all whole)
+front_of_whole old new bs whole = (length bs, subst (Appends old new) (sym (take-length bs)) whole)
 
 -- nothing is a front of everything
 pub front_none : (old : Option (List ℕ)) (bs : List ℕ) → AppendsFront old old bs
@@ -37,11 +36,12 @@ front_none old bs =
 -- a front of ys behind the whole of xs is a front of both
 pub front_after : (old mid new : Option (List ℕ)) (xs ys : List ℕ) → Appends old mid xs → AppendsFront mid new ys → AppendsFront old new (xs ++ ys)
 front_after old mid new xs ys first (n, second) =
-    let both : xs ++ take n ys ≡ take (length xs + n) (xs ++ ys) = grind (arith, common_steps) in
-    (length xs + n, subst (Appends old new) both (Appends-trans old mid new _ _ first second))
+    let both = Appends-trans old mid new _ _ first second in
+    (length xs + n, subst (Appends old new) (sym (take-append-add xs ys n)) both)
 
 -- a front of xs is a front of whatever begins with xs
 pub front_longer : (old new : Option (List ℕ)) (xs ys : List ℕ) → AppendsFront old new xs → AppendsFront old new (xs ++ ys)
 front_longer old new xs ys (n, front) =
-    let same : take n xs ≡ take (min n (length xs)) (xs ++ ys) = grind (arith, common_steps) in
-    (min n (length xs), subst (Appends old new) same front)
+    let m = min n (length xs) in
+    let same : take n xs ≡ take m (xs ++ ys) = sym (take_min n xs) ∙ sym (take-append-le m xs ys (omega arith)) in
+    (m, subst (Appends old new) same front)

@@ -37,7 +37,12 @@ impl Model for MemSink {
 impl MemSink {
     /// An empty sink with this room, in bytes. A write takes at most `most` bytes, and fails where its
     /// number, counted from 1, is among `failing`.
-    pub fn new(alloc: Global, room: usize, most: usize, failing: Vec<u64>) -> Result<MemSink, NoMemory>
+    pub fn new(
+        alloc: Global,
+        room: usize,
+        most: usize,
+        failing: Vec<u64>,
+    ) -> Result<MemSink, NoMemory>
         ensures { IfOk result (λ s. s ≡ record { held = []; room = room; most = most; failing = failing.items; calls = 0; faults = 0 }) }
     {
         let bytes = Vec::with_capacity(alloc, room)?;
