@@ -7,7 +7,7 @@ use std::alloc::{AllocError, AllocFailed};
 ///
 /// The one error of a call that can fail for lack of memory alone, in every crate: `?` makes it of
 /// std's two errors of an allocation, and drops the value that was not stored.
-#[derive(Clone, Copy, Debug, PartialEq, Eq)]
+#[derive(Clone, Copy, Debug)]
 pub struct NoMemory;
 
 impl From<AllocError> for NoMemory {

@@ -3,7 +3,7 @@ use Rattle.std.proofs.Common.{◌≡◌, ℕ, ◌+◌, ◌-◌, ◌≤◌, min, 
 use Rattle.std.proofs.lemmas.Grind.{common_steps}
 use Rattle.std.proofs.lemmas.List.{take_min, take-append-le}
 use Rattle.std.proofs.Math.Seq.{take-add, take-append-add, take-length}
-use Rattle.std.proofs.KnownBytes.{Appends-trans}
+use Rattle.std.proofs.KnownBytes.{Appends-nil, Appends-trans}
 use Rattle.std.specs.declared.option.Option.{Option}
 use Rattle.std.specs.Io.KnownBytes.{Appends}
 use Rattle.trace_out.specs.Causes.{AppendsFront}
@@ -18,11 +18,6 @@ appends_slice old mid new xs n m within first second =
     let whole : take (length xs - n) (drop n xs) ≡ drop n xs = grind (arith, common_steps) in
     appends_more old mid new xs n m first (subst (λ ys. Appends mid new (take m ys)) whole second)
 
--- what nothing is appended to stays
-pub appends_none : (old : Option (List ℕ)) → Appends old old []
-appends_none None = tt
-appends_none (Some xs) = sym (append-nil xs)
-
 -- the whole is a front of itself
 pub front_of_whole : (old new : Option (List ℕ)) (bs : List ℕ) → Appends old new bs → AppendsFront old new bs
 front_of_whole old new bs whole = (length bs, subst (Appends old new) (sym (take-length bs)) whole)
@@ -31,7 +26,7 @@ front_of_whole old new bs whole = (length bs, subst (Appends old new) (sym (take
 pub front_none : (old : Option (List ℕ)) (bs : List ℕ) → AppendsFront old old bs
 front_none old bs =
     let none : [] ≡ take 0 bs = grind (arith, common_steps) in
-    (0, subst (Appends old old) none (appends_none old))
+    (0, subst (Appends old old) none (Appends-nil old))
 
 -- a front of ys behind the whole of xs is a front of both
 pub front_after : (old mid new : Option (List ℕ)) (xs ys : List ℕ) → Appends old mid xs → AppendsFront mid new ys → AppendsFront old new (xs ++ ys)

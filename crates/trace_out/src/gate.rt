@@ -11,7 +11,7 @@ pub trait Gate: Sync {
 }
 
 /// The gate that lets everyone pass.
-#[derive(Drop)]
+#[derive(Clone, Copy)]
 pub struct OpenGate;
 
 impl Gate for OpenGate {

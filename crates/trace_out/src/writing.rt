@@ -9,7 +9,7 @@ ghost use Rattle.trace_out.specs.Causes.{HasCause, AppendsFront};
 use crate::{Failed, Sink};
 
 /// Why not all bytes were written.
-#[derive(Clone, Copy, Debug, PartialEq, Eq)]
+#[derive(Clone, Copy, Debug)]
 pub enum WriteAll {
     /// The sink failed.
     WriteFault,
