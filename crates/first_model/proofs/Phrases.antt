@@ -130,7 +130,7 @@ take_while_stops p (x ∷ xs) b rest all stop =
 letter_is_run : (b : ℕ) → is_letter b ≡ true → is_run_byte b ≡ true
 letter_is_run b e = rw e refl
 
-word_is_run : (name : List ℕ) → is_word name ≡ true → list_all is_run_byte name ≡ true
+pub word_is_run : (name : List ℕ) → is_word name ≡ true → list_all is_run_byte name ≡ true
 word_is_run [] e = absurd (false≢true e)
 word_is_run (b ∷ name) e =
     let outer = and_parts _ _ e in
