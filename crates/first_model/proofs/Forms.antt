@@ -29,7 +29,7 @@ abbrev mutual
   row_of (Before form forms) = And (tree_of form) (row_of forms)
 
 -- what stands before a bind that gives a value
-bind_parts : {A B : Type 0} (o : Option A) (f : A → Option B) (y : B) → (o >>= f) ≡ Some y → (x : A) × (o ≡ Some x) × (f x ≡ Some y)
+pub bind_parts : {A B : Type 0} (o : Option A) (f : A → Option B) (y : B) → (o >>= f) ≡ Some y → (x : A) × (o ≡ Some x) × (f x ≡ Some y)
 bind_parts None f y e = absurd (none-some _ e)
 bind_parts (Some x) f y e = (x, refl, e)
 
@@ -58,11 +58,11 @@ before : (tree : Tree) (rest : Trees) (f : Form) (fs : Forms) → tree ≡ tree_
 before tree rest f fs d e = rw (d, e) refl
 
 -- a refused case gives no value
-unless_some : {A : Type 0} (b : Bool) (o : Option A) (y : A) → elim b [ true ↦ None | false ↦ o ] ≡ Some y → o ≡ Some y
+pub unless_some : {A : Type 0} (b : Bool) (o : Option A) (y : A) → elim b [ true ↦ None | false ↦ o ] ≡ Some y → o ≡ Some y
 unless_some true o y e = absurd (none-some _ e)
 unless_some false o y e = e
 
-when_some : {A : Type 0} (b : Bool) (o : Option A) (y : A) → elim b [ false ↦ None | true ↦ o ] ≡ Some y → (b ≡ true) × (o ≡ Some y)
+pub when_some : {A : Type 0} (b : Bool) (o : Option A) (y : A) → elim b [ false ↦ None | true ↦ o ] ≡ Some y → (b ≡ true) × (o ≡ Some y)
 when_some true o y e = (refl, e)
 when_some false o y e = absurd (none-some _ e)
 

@@ -49,7 +49,7 @@ take_while_passes p [] = refl
 take_while_passes p (x ∷ xs) =
     rw (take_while-cons p x xs) (cond_both (p x) (x ∷ take_while p xs) [] (λ ys. list_all p ys ≡ true) (λ e. and_from _ _ e (take_while_passes p xs)) (λ e. refl))
 
-begins_is : (s p : List ℕ) → starts_with nat_eq s p ≡ true → s ≡ p ++ drop (length p) s
+pub begins_is : (s p : List ℕ) → starts_with nat_eq s p ≡ true → s ≡ p ++ drop (length p) s
 begins_is s p e = (starts_is Decides-eqb s p _ refl).0 e
 
 opened_found : (former : Former) (bytes : List ℕ) (found : Parsed) → opened former bytes ≡ Some found → IsFound (before_name former ++ bytes) found

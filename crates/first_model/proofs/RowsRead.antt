@@ -21,11 +21,11 @@ pub record IsStep (most depth : ℕ) (bytes : List ℕ) (rows : List Trees) : Ty
   pub made : onto found.phrase behind ≡ rows
 
 -- an option that is taken apart and gives a value
-some_parts : {A B : Type 0} (o : Option A) (f : A → Option B) (y : B) → elim o [ None ↦ None | Some x ↦ f x ] ≡ Some y → (x : A) × (o ≡ Some x) × (f x ≡ Some y)
+pub some_parts : {A B : Type 0} (o : Option A) (f : A → Option B) (y : B) → elim o [ None ↦ None | Some x ↦ f x ] ≡ Some y → (x : A) × (o ≡ Some x) × (f x ≡ Some y)
 some_parts None f y e = absurd (none-some _ e)
 some_parts (Some x) f y e = (x, refl, e)
 
-some_back : {A B : Type 0} (o : Option A) (f : A → Option B) (x : A) (y : Option B) → o ≡ Some x → f x ≡ y → elim o [ None ↦ None | Some x ↦ f x ] ≡ y
+pub some_back : {A B : Type 0} (o : Option A) (f : A → Option B) (x : A) (y : Option B) → o ≡ Some x → f x ≡ y → elim o [ None ↦ None | Some x ↦ f x ] ≡ y
 some_back None f x y e h = absurd (none-some _ e)
 some_back (Some z) f x y e h = ap f (same_Some _ _ e) ∙ h
 
@@ -157,7 +157,7 @@ phrase_plain (Opens Switching name) fit = plain_joined (codes " (switch ") name 
 phrase_plain (Opens Forking name) fit = plain_joined (codes " (fork ") name (omega arith) (passes_plain is_run_byte refl name (word_is_run name fit))
 
 -- bytes in front of a spelling with or without a last LF
-ended_behind : (front bytes rest spelling whole : List ℕ) → bytes ≡ front ++ rest → whole ≡ front ++ spelling → (rest ≡ spelling) ⊎ (rest ≡ spelling ++ 10 ∷ []) → (bytes ≡ whole) ⊎ (bytes ≡ whole ++ 10 ∷ [])
+pub ended_behind : (front bytes rest spelling whole : List ℕ) → bytes ≡ front ++ rest → whole ≡ front ++ spelling → (rest ≡ spelling) ⊎ (rest ≡ spelling ++ 10 ∷ []) → (bytes ≡ whole) ⊎ (bytes ≡ whole ++ 10 ∷ [])
 ended_behind front bytes rest spelling whole e f (inl g) = inl (rw (e, f, g) refl)
 ended_behind front bytes rest spelling whole e f (inr g) = inr (rw (e, f, g, append_assoc front spelling (10 ∷ [])) refl)
 
