@@ -57,10 +57,13 @@ named former word name body forms e f = rw (e, f) refl
 before : (tree : Tree) (rest : Trees) (f : Form) (fs : Forms) → tree ≡ tree_of f → rest ≡ row_of fs → And tree rest ≡ row_of (Before f fs)
 before tree rest f fs d e = rw (d, e) refl
 
--- a refused case gives no value
-pub unless_some : {A : Type 0} (b : Bool) (o : Option A) (y : A) → elim b [ true ↦ None | false ↦ o ] ≡ Some y → o ≡ Some y
+-- a choice with no value in one case
+pub unless_some : {A : Type 0} (b : Bool) (o : Option A) (y : A) → elim b [ true ↦ None | false ↦ o ] ≡ Some y → (b ≡ false) × (o ≡ Some y)
 unless_some true o y e = absurd (none-some _ e)
-unless_some false o y e = e
+unless_some false o y e = (refl, e)
+
+pub unless_back : {A : Type 0} (b : Bool) (o : Option A) (y : Option A) → b ≡ false → o ≡ y → elim b [ true ↦ None | false ↦ o ] ≡ y
+unless_back b o y e h = rw e h
 
 pub when_some : {A : Type 0} (b : Bool) (o : Option A) (y : A) → elim b [ false ↦ None | true ↦ o ] ≡ Some y → (b ≡ true) × (o ≡ Some y)
 when_some true o y e = (refl, e)
@@ -83,7 +86,7 @@ mutual
 
   form_shape : (scope : Scope) (word : List ℕ) (h : Head) (operands : Trees) (s : Statement) → HasHead h word → form scope h operands ≡ Some s → (f : Form) × (Branch (And (Word word) operands) ≡ tree_of f)
   form_shape scope word SwitchHead (And (Word name) body) s head e =
-      let inner = bind_parts (block (name ∷ scope) body) (λ b. Some (Switch b)) s (unless_some (is_some (place_of scope name)) _ _ e) in
+      let inner = bind_parts (block (name ∷ scope) body) (λ b. Some (Switch b)) s (unless_some (is_some (place_of scope name)) _ _ e).1 in
       let shape = block_shape (name ∷ scope) body inner.0 inner.1 in
       (Opening Switching name shape.0, named Switching word name body shape.0 head shape.1)
   form_shape scope word ForkHead (And (Word name) body) s head e =
