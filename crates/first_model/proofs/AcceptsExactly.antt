@@ -1,12 +1,12 @@
 -- `accepted` takes the canonical spellings of scripts within the limits, and nothing else: both directions joined.
-use Rattle.std.proofs.Common.{◌≡◌, ◌≢◌, ◌↔◌, ℕ, zero, suc, pred, ◌+◌, ◌<◌, ◌≤◌, Bool, true, false, if◌then◌else◌, nat_eq, nat_le, nat_lt, ◌⊎◌, inl, inr, ⊎_elim, List, [], ◌∷◌, ◌++◌, length, drop, All, pos, Option, Some, None, codes, refl, sym, ap, ◌∙◌, subst, append_assoc, append-nil, length-append, arith}
-use Rattle.std.specs.List.{starts_with, list_all, flat_map, AllByRecursion}
+use Rattle.std.proofs.Common.{◌≡◌, ◌≢◌, ℕ, suc, ◌≤◌, true, nat_eq, nat_le, nat_lt, ◌⊎◌, inl, inr, ⊎_elim, List, [], ◌∷◌, ◌++◌, length, drop, Some, None, codes, refl, sym, ap, ◌∙◌, subst, append_assoc, append-nil, length-append, arith}
+use Rattle.std.specs.List.{starts_with}
 use Rattle.std.proofs.lemmas.Bool.{ltb-false, le-ltb, leb-true, le-leb}
 use Rattle.std.proofs.lemmas.Fmt.{decimal_digit}
 use Rattle.std.proofs.lemmas.List.Elements.{All-from_recursion, recursion_from_All}
-use Rattle.std.proofs.lemmas.Option.{none-some, same_Some, cond_some}
-use Rattle.first_model.specs.Trees.{Tree, Word, Number, Text, Branch, Trees, Nil, And, canonical, canonical_row, canonical_rest, IsWithin, IsRowWithin}
-use Rattle.first_model.specs.Reading.{is_end, rows_in, root_of, tree_in}
+use Rattle.std.proofs.lemmas.Option.{same_Some, cond_some}
+use Rattle.first_model.specs.Trees.{Tree, Trees, Nil, canonical, canonical_row, canonical_rest, IsWithin, IsRowWithin}
+use Rattle.first_model.specs.Reading.{rows_in, root_of, tree_in}
 use Rattle.first_model.specs.Script.{Block, script_of, statements}
 use Rattle.first_model.specs.Answer.{accepted, if_few, most_bytes, most_statements}
 use Rattle.first_model.specs.Laws.{IsSpelled, IsAccepted, AcceptsExactly}
@@ -14,7 +14,7 @@ use Rattle.first_model.proofs.Phrases.{begins_is}
 use Rattle.first_model.proofs.Spelled.{spelled, NoBackslash, plain_joined, plain_parts}
 use Rattle.first_model.proofs.RowsRead.{some_parts, some_back, IsRead, rows_read, enough_fuel, at_end, ended_behind}
 use Rattle.first_model.proofs.Forms.{Forms, Last, row_of, script_shape, unless_some, unless_back, when_some}
-use Rattle.first_model.proofs.ReadBack.{CanRead, row_back, branch_within}
+use Rattle.first_model.proofs.ReadBack.{CanRead, row_back}
 
 -- what stands before the statements of `main`
 abbrev pub opening : List ℕ
@@ -47,7 +47,7 @@ tree_read bytes tree e =
     let begins = when_some (starts_with nat_eq bytes opening) _ _ e in
     let parts = some_parts (rows_in (length bytes) 2 (drop 12 bytes)) (λ rows. Some (root_of rows)) tree begins.1 in
     subst (λ (t : Tree). IsTreeOf bytes t) (same_Some _ _ parts.2)
-      (root_read bytes (drop 12 bytes) parts.0 (begins_is bytes opening begins.0) (rows_read (length bytes) 62 2 (drop 12 bytes) parts.0 refl parts.1))
+    (root_read bytes (drop 12 bytes) parts.0 (begins_is bytes opening begins.0) (rows_read (length bytes) 62 2 (drop 12 bytes) parts.0 refl parts.1))
 
 -- the end of the bytes is read as no row
 end_back : (tail : List ℕ) → (tail ≡ []) ⊎ (tail ≡ 10 ∷ []) → CanRead 0 tail []
@@ -58,14 +58,14 @@ script_read : (fs : Forms) (tail : List ℕ) → (tail ≡ []) ⊎ (tail ≡ 10 
 unfolding IsWithin IsRowWithin canonical canonical_row canonical_rest
 script_read fs tail ends within plain =
     row_back fs 62 1 (Nil ∷ []) tail refl within.1.1.0.1 plain
-      (row_back Last 63 0 [] tail refl tt tt (end_back tail ends))
+    (row_back Last 63 0 [] tail refl tt tt (end_back tail ends))
 
 tree_at : (behind : List ℕ) (rows : List Trees) → CanRead 2 behind rows → tree_in (opening ++ behind) ≡ Some (root_of rows)
 unfolding tree_in
 tree_at behind rows can =
     let longer : length behind ≤ length (opening ++ behind) = rw (length-append opening behind) (omega arith) in
     some_back (rows_in (length (opening ++ behind)) 2 behind) (λ rows. Some (root_of rows)) rows (Some (root_of rows))
-      (enough_fuel can.most 2 behind rows can.reads (length (opening ++ behind)) longer) refl
+    (enough_fuel can.most 2 behind rows can.reads (length (opening ++ behind)) longer) refl
 
 -- a spelling behind the opening, with the bytes that end it
 opened_spelling : (bytes tail : List ℕ) (body rest : Trees) → bytes ≡ canonical (root_of (body ∷ rest ∷ [])) ++ tail → bytes ≡ opening ++ (spelled (body ∷ rest ∷ []) ++ tail)
@@ -91,9 +91,9 @@ pub spelled_back : (bytes : List ℕ) (main : Block) → (is : IsSpelled bytes m
 spelled_back bytes main is plain =
     let shape = script_shape is.tree main is.script in
     ⊎_elim
-      (λ e. shaped_back bytes is.tree shape.0 [] (inl refl) plain shape.1 (e ∙ sym (append-nil (canonical is.tree))) is.within)
-      (λ e. shaped_back bytes is.tree shape.0 (10 ∷ []) (inr refl) plain shape.1 e is.within)
-      is.spelling
+    (λ e. shaped_back bytes is.tree shape.0 [] (inl refl) plain shape.1 (e ∙ sym (append-nil (canonical is.tree))) is.within)
+    (λ e. shaped_back bytes is.tree shape.0 (10 ∷ []) (inr refl) plain shape.1 e is.within)
+    is.spelling
 
 accepted_is : (bytes : List ℕ) (main : Block) → accepted bytes ≡ Some main → IsAccepted bytes main
 unfolding accepted
@@ -115,9 +115,9 @@ unfolding accepted
 is_accepted bytes main is =
     let few : nat_le (statements main) most_statements ≡ true = le-leb _ _ is.few in
     unless_back (nat_lt most_bytes (length bytes)) _ (Some main) (le-ltb most_bytes (length bytes) is.short)
-      (some_back (tree_in bytes) (λ tree. elim (script_of tree) [ None ↦ None | Some main ↦ if_few main ]) is.spelled.tree (Some main)
-        (spelled_back bytes main is.spelled (recursion_from_All (λ b. b ≢ 92) bytes is.plain))
-        (some_back (script_of is.spelled.tree) if_few main (Some main) is.spelled.script (rw few refl)))
+    (some_back (tree_in bytes) (λ tree. elim (script_of tree) [ None ↦ None | Some main ↦ if_few main ]) is.spelled.tree (Some main)
+    (spelled_back bytes main is.spelled (recursion_from_All (λ b. b ≢ 92) bytes is.plain))
+    (some_back (script_of is.spelled.tree) if_few main (Some main) is.spelled.script (rw few refl)))
 
 pub accepts_exactly : AcceptsExactly
 accepts_exactly bytes main = (accepted_is bytes main, is_accepted bytes main)

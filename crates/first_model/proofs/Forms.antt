@@ -1,11 +1,11 @@
 -- The trees that are scripts: their statements have four shapes, and no other.
-use Rattle.std.proofs.Common.{◌≡◌, ℕ, Bool, true, false, cond, bytes_eq, List, [], ◌∷◌, ℤ, pos, negsuc, Option, Some, None, codes, is_some, refl, sym, ap, ◌∙◌, subst}
+use Rattle.std.proofs.Common.{◌≡◌, ℕ, Bool, true, false, cond, bytes_eq, List, [], ◌∷◌, ℤ, pos, negsuc, Option, Some, None, codes, is_some, refl, ap}
 use Rattle.std.proofs.lemmas.Bool.{eqb-true, cond_both, false≢true}
 use Rattle.std.proofs.lemmas.Option.{none-some}
 use Rattle.std.proofs.lemmas.Slice.Eq.{bytes_eq-Decides}
 use Rattle.first_model.specs.Trees.{Tree, Word, Number, Text, Branch, Trees, Nil, And}
 use Rattle.first_model.specs.Reading.{Former, Switching, Forking, head_word, root_of}
-use Rattle.first_model.specs.Script.{Statement, Switch, Fork, Trace, Yield, Block, Then, Done, Scope, place_of, ◌>>=◌, Head, SwitchHead, ForkHead, TraceHead, YieldHead, OtherHead, head_of, statement, form, block, is_one, script_of}
+use Rattle.first_model.specs.Script.{Statement, Switch, Fork, Block, Then, Scope, place_of, ◌>>=◌, Head, SwitchHead, ForkHead, TraceHead, YieldHead, OtherHead, head_of, statement, form, block, is_one, script_of}
 
 -- a statement's shape, and a row of them
 mutual
@@ -47,9 +47,9 @@ has_head_if word text h other here past = cond_both (bytes_eq word text) h other
 has_head : (word : List ℕ) → HasHead (head_of word) word
 has_head word =
     has_head_if word (codes "switch") SwitchHead _ (λ e. e)
-      (has_head_if word (codes "fork") ForkHead _ (λ e. e)
-        (has_head_if word (codes "trace") TraceHead _ (λ e. e)
-          (has_head_if word (codes "yield") YieldHead OtherHead (λ e. e) tt)))
+    (has_head_if word (codes "fork") ForkHead _ (λ e. e)
+    (has_head_if word (codes "trace") TraceHead _ (λ e. e)
+    (has_head_if word (codes "yield") YieldHead OtherHead (λ e. e) tt)))
 
 named : (former : Former) (word name : List ℕ) (body : Trees) (forms : Forms) → word ≡ head_word former → body ≡ row_of forms → Branch (And (Word word) (And (Word name) body)) ≡ tree_of (Opening former name forms)
 named former word name body forms e f = rw (e, f) refl

@@ -1,7 +1,7 @@
 -- The bytes of a phrase: `parsed` finds a phrase exactly where its bytes stand.
-use Rattle.std.proofs.Common.{if◌then◌else◌, ◌≡◌, ℕ, ◌+◌, ◌<◌, ◌≤◌, Bool, true, false, cond, ◌&&◌, not, nat_eq, nat_le, ◌⊎◌, inl, inr, List, [], ◌∷◌, ◌++◌, length, take, drop, take_while, IsTrue, Option, Some, None, codes, refl, sym, ap, ◌∙◌, subst, append_assoc, take-append-drop, drop_at, length-append, arith}
+use Rattle.std.proofs.Common.{if◌then◌else◌, ◌≡◌, ℕ, ◌≤◌, Bool, true, false, cond, nat_eq, nat_le, List, [], ◌∷◌, ◌++◌, length, drop, take_while, IsTrue, Option, Some, None, codes, refl, sym, ap, ◌∙◌, subst, append_assoc, take-append-drop, drop_at}
 use Rattle.std.specs.List.{starts_with, list_all, prefix_len}
-use Rattle.std.proofs.lemmas.Bool.{and_parts, and_from, cond_both, false≢true, leb-true, le-leb, cases_Bool}
+use Rattle.std.proofs.lemmas.Bool.{and_parts, and_from, cond_both, false≢true, leb-true, le-leb}
 use Rattle.std.proofs.lemmas.Bool.Decides.{Decides-eqb}
 use Rattle.std.proofs.lemmas.List.{length-take-le}
 use Rattle.std.proofs.lemmas.List.Sums.{prefix_len-le-length, take_while-cons}
@@ -89,33 +89,33 @@ yields bytes = if starts_with nat_eq bytes (codes " (yield)") then Some (record 
 forks_found : (bytes : List ℕ) (found : Parsed) → forks bytes ≡ Some found → IsFound bytes found
 forks_found bytes found e =
     if_then (starts_with nat_eq bytes (codes " (fork ")) (opened Forking (drop 7 bytes)) None found e
-      (λ here h. found_behind bytes (codes " (fork ") 7 found (begins_is bytes (codes " (fork ") here) (opened_found Forking (drop 7 bytes) found h))
-      (λ past h. absurd (none-some _ h))
+    (λ here h. found_behind bytes (codes " (fork ") 7 found (begins_is bytes (codes " (fork ") here) (opened_found Forking (drop 7 bytes) found h))
+    (λ past h. absurd (none-some _ h))
 
 switches_found : (bytes : List ℕ) (found : Parsed) → switches bytes ≡ Some found → IsFound bytes found
 switches_found bytes found e =
     if_then (starts_with nat_eq bytes (codes " (switch ")) (opened Switching (drop 9 bytes)) (forks bytes) found e
-      (λ here h. found_behind bytes (codes " (switch ") 9 found (begins_is bytes (codes " (switch ") here) (opened_found Switching (drop 9 bytes) found h))
-      (λ past h. forks_found bytes found h)
+    (λ here h. found_behind bytes (codes " (switch ") 9 found (begins_is bytes (codes " (switch ") here) (opened_found Switching (drop 9 bytes) found h))
+    (λ past h. forks_found bytes found h)
 
 traces_found : (bytes : List ℕ) (found : Parsed) → traces bytes ≡ Some found → IsFound bytes found
 traces_found bytes found e =
     if_then (starts_with nat_eq bytes (codes " (trace \"")) (said (drop 9 bytes)) (switches bytes) found e
-      (λ here h. found_behind bytes (codes " (trace \"") 9 found (begins_is bytes (codes " (trace \"") here) (said_found (drop 9 bytes) found h))
-      (λ past h. switches_found bytes found h)
+    (λ here h. found_behind bytes (codes " (trace \"") 9 found (begins_is bytes (codes " (trace \"") here) (said_found (drop 9 bytes) found h))
+    (λ past h. switches_found bytes found h)
 
 yields_found : (bytes : List ℕ) (found : Parsed) → yields bytes ≡ Some found → IsFound bytes found
 yields_found bytes found e =
     if_then (starts_with nat_eq bytes (codes " (yield)")) (Some (record { phrase = Yields; rest = drop 8 bytes })) (traces bytes) found e
-      (λ here h. subst (λ (f : Parsed). IsFound bytes f) (same_Some _ _ h) (record { fit = tt; spelling = begins_is bytes (codes " (yield)") here }))
-      (λ past h. traces_found bytes found h)
+    (λ here h. subst (λ (f : Parsed). IsFound bytes f) (same_Some _ _ h) (record { fit = tt; spelling = begins_is bytes (codes " (yield)") here }))
+    (λ past h. traces_found bytes found h)
 
 pub parsed_found : (bytes : List ℕ) (found : Parsed) → parsed bytes ≡ Some found → IsFound bytes found
 unfolding parsed
 parsed_found bytes found e =
     if_then (starts_with nat_eq bytes (codes ")")) (Some (record { phrase = Closes; rest = drop 1 bytes })) (yields bytes) found e
-      (λ here h. subst (λ (f : Parsed). IsFound bytes f) (same_Some _ _ h) (record { fit = tt; spelling = begins_is bytes (codes ")") here }))
-      (λ past h. yields_found bytes found h)
+    (λ here h. subst (λ (f : Parsed). IsFound bytes f) (same_Some _ _ h) (record { fit = tt; spelling = begins_is bytes (codes ")") here }))
+    (λ past h. yields_found bytes found h)
 
 -- the other way round
 
@@ -154,7 +154,7 @@ MayFollow Closes rest = Unit {0}
 opened_back : (former : Former) (name rest : List ℕ) → is_word name ≡ true → EndsName rest → opened former (name ++ rest) ≡ Some (record { phrase = Opens former name; rest = rest })
 opened_back former name rest word ends =
     let longest : take_while is_run_byte (name ++ rest) ≡ name =
-          ap (λ (bs : List ℕ). take_while is_run_byte (name ++ bs)) ends.is ∙ take_while_stops is_run_byte name ends.first ends.more (word_is_run name word) ends.stops in
+    ap (λ (bs : List ℕ). take_while is_run_byte (name ++ bs)) ends.is ∙ take_while_stops is_run_byte name ends.first ends.more (word_is_run name word) ends.stops in
     rw (longest, word, drop_at name rest (length name) refl) refl
 
 said_back : (text rest : List ℕ) → list_all is_plain text ≡ true → length text ≤ 1024 → said ((text ++ codes "\")") ++ rest) ≡ Some (record { phrase = Says text; rest = rest })

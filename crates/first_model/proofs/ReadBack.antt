@@ -1,14 +1,14 @@
 -- The spelled rows of a script are read back as they are.
 -- By induction on the statements, last to first: each stands as one phrase in front of rows that are read back already.
-use Rattle.std.proofs.Common.{◌≡◌, ℕ, zero, suc, pred, ◌+◌, ◌<◌, ◌≤◌, Bool, true, false, if◌then◌else◌, ◌&&◌, nat_le, nat_lt, ◌⊎◌, inl, inr, List, [], ◌∷◌, ◌++◌, length, IsTrue, Option, Some, None, codes, refl, sym, ap, ◌∙◌, subst, append_assoc, arith}
+use Rattle.std.proofs.Common.{◌≡◌, ℕ, zero, suc, pred, ◌+◌, ◌<◌, true, if◌then◌else◌, ◌&&◌, nat_le, nat_lt, List, [], ◌∷◌, ◌++◌, length, Some, None, codes, refl, sym, ap, ◌∙◌, subst, append_assoc, arith}
 use Rattle.std.specs.List.{list_all, flat_map}
 use Rattle.std.proofs.lemmas.Bool.{and_parts, lt-ltb, leb-true}
-use Rattle.first_model.specs.Trees.{Tree, Word, Number, Text, Branch, Trees, Nil, And, is_word, is_plain, may_stand, escaped, quoted, canonical, canonical_row, canonical_rest, IsWithin, IsRowWithin}
-use Rattle.first_model.specs.Reading.{Former, Switching, Forking, Phrase, Opens, Says, Yields, Closes, Parsed, parsed, open_after, onto, head_word, is_end, rows_in}
+use Rattle.first_model.specs.Trees.{Word, Text, Branch, Trees, Nil, And, may_stand, escaped, quoted, canonical, canonical_row, canonical_rest, IsWithin, IsRowWithin}
+use Rattle.first_model.specs.Reading.{Phrase, Opens, Says, Yields, Closes, open_after, onto, head_word, rows_in}
 use Rattle.first_model.proofs.Phrases.{phrase_bytes, IsFit, EndsName, MayFollow, parsed_back}
 use Rattle.first_model.proofs.Spelled.{spelled, NoBackslash, plain_parts, text_is_plain, IsEnough, spelled_onto}
-use Rattle.first_model.proofs.RowsRead.{step_back, at_end}
-use Rattle.first_model.proofs.Forms.{Form, Opening, Saying, Yielding, Forms, Last, Before, tree_of, row_of}
+use Rattle.first_model.proofs.RowsRead.{step_back}
+use Rattle.first_model.proofs.Forms.{Opening, Saying, Yielding, Forms, Last, Before, row_of}
 
 -- the bytes are read as these rows, with fuel enough
 pub record CanRead (depth : ℕ) (bytes : List ℕ) (rows : List Trees) : Type 0 where
@@ -80,15 +80,15 @@ row_back (Before Yielding fs) left depth rows tail sum within plain can =
     let open_one = branch_within left (And (Word (codes "yield")) Nil) within.0 in
     let pieces = plain_parts (codes "(yield)") (canonical_rest (row_of fs)) plain.1 in
     phrase_back Yields depth (suc depth) (row_of fs ∷ rows) tail tt tt tt (opens_more left depth sum open_one.0)
-      (row_back fs left depth rows tail sum within.1 pieces.1 can)
+    (row_back fs left depth rows tail sum within.1 pieces.1 can)
 row_back (Before (Saying text) fs) left depth rows tail sum within plain can =
     let open_one = branch_within left (And (Word (codes "trace")) (And (Text text) Nil)) within.0 in
     let pieces = plain_pieces (codes "trace") (quoted text) [] (canonical_rest (row_of fs)) plain.1.1 in
     phrase_back (Says text) depth (suc depth) (row_of fs ∷ rows) tail (text_fits text open_one.1.1.0 pieces.0) tt tt (opens_more left depth sum open_one.0)
-      (row_back fs left depth rows tail sum within.1 pieces.2 can)
+    (row_back fs left depth rows tail sum within.1 pieces.2 can)
 row_back (Before (Opening former name body) fs) left depth rows tail sum within plain can =
     let open_one = branch_within left (And (Word (head_word former)) (And (Word name) (row_of body))) within.0 in
     let pieces = plain_pieces (head_word former) name (canonical_rest (row_of body)) (canonical_rest (row_of fs)) plain.1.1 in
     phrase_back (Opens former name) depth (suc (suc depth)) (row_of body ∷ row_of fs ∷ rows) tail open_one.1.1.0 tt (ends_name (row_of body) (row_of fs ∷ rows) tail) (opens_deeper left depth sum open_one.0)
-      (row_back body (pred left) (suc depth) (row_of fs ∷ rows) tail (deeper left depth sum open_one.0) open_one.1.1.1 pieces.1
-        (row_back fs left depth rows tail sum within.1 pieces.2 can))
+    (row_back body (pred left) (suc depth) (row_of fs ∷ rows) tail (deeper left depth sum open_one.0) open_one.1.1.1 pieces.1
+    (row_back fs left depth rows tail sum within.1 pieces.2 can))

@@ -1,13 +1,12 @@
 -- What `rows_in` reads is spelled there, and within the limits.
 -- By induction on the phrases: a phrase in front of the spelled rows spells the rows that it makes (`spelled_onto`).
-use Rattle.std.proofs.Common.{◌≡◌, ◌≢◌, ℕ, zero, suc, pred, ◌+◌, ◌<◌, ◌≤◌, Bool, true, false, cond, if◌then◌else◌, ◌&&◌, ◌==◌, nat_le, nat_lt, ◌⊎◌, inl, inr, List, [], ◌∷◌, ◌++◌, length, IsTrue, Option, Some, None, codes, refl, sym, ap, ◌∙◌, subst, append_assoc, length-append, arith}
+use Rattle.std.proofs.Common.{◌≡◌, ℕ, zero, suc, pred, ◌+◌, ◌<◌, ◌≤◌, Bool, true, false, if◌then◌else◌, ◌&&◌, nat_le, nat_lt, ◌⊎◌, inl, inr, List, [], ◌∷◌, ◌++◌, length, Option, Some, None, codes, refl, sym, ap, ◌∙◌, subst, append_assoc, length-append, arith}
 use Rattle.std.specs.List.{list_all}
 use Rattle.std.proofs.lemmas.Bool.{and_parts, and_from, ltb-true, eqb-true, le-leb, false≢true}
-use Rattle.std.proofs.lemmas.Bool.Decides.{nat_tests}
 use Rattle.std.proofs.lemmas.Option.{cond_some, none-some, same_Some}
-use Rattle.first_model.specs.Trees.{Tree, Word, Number, Text, Branch, Trees, Nil, And, is_run_byte, is_word, is_plain, may_stand, IsWithin, IsRowWithin}
+use Rattle.first_model.specs.Trees.{Trees, is_run_byte, is_word, is_plain, may_stand, IsWithin, IsRowWithin}
 use Rattle.first_model.specs.Reading.{Former, Switching, Forking, Phrase, Opens, Says, Yields, Closes, Parsed, parsed, open_after, onto, head_word, is_end, rows_in}
-use Rattle.first_model.proofs.Phrases.{phrase_bytes, before_name, IsFit, IsFound, parsed_found, word_is_run}
+use Rattle.first_model.proofs.Phrases.{phrase_bytes, IsFit, IsFound, parsed_found, word_is_run}
 use Rattle.first_model.proofs.Spelled.{spelled, NoBackslash, plain_joined, IsEnough, spelled_onto}
 
 -- one phrase read, and the rows behind it
@@ -33,9 +32,9 @@ pub step_of : (most depth : ℕ) (bytes : List ℕ) (rows : List Trees) → rows
 unfolding rows_in
 step_of most depth bytes rows e =
     let a = some_parts (parsed bytes) (λ found. elim (open_after found.phrase depth) [
-        | None ↦ None
-        | Some next ↦ elim (rows_in most next found.rest) [ None ↦ None | Some rows ↦ Some (onto found.phrase rows) ]
-      ]) rows e in
+      | None ↦ None
+      | Some next ↦ elim (rows_in most next found.rest) [ None ↦ None | Some rows ↦ Some (onto found.phrase rows) ]
+    ]) rows e in
     let found = a.0 in
     let b = some_parts (open_after found.phrase depth) (λ next. elim (rows_in most next found.rest) [ None ↦ None | Some rows ↦ Some (onto found.phrase rows) ]) rows a.2 in
     let c = some_parts (rows_in most b.0 found.rest) (λ rows. Some (onto found.phrase rows)) rows b.2 in
@@ -45,12 +44,12 @@ pub step_back : (most depth : ℕ) (bytes : List ℕ) (rows : List Trees) → Is
 unfolding rows_in
 step_back most depth bytes rows step =
     some_back (parsed bytes) (λ found. elim (open_after found.phrase depth) [
-        | None ↦ None
-        | Some next ↦ elim (rows_in most next found.rest) [ None ↦ None | Some rows ↦ Some (onto found.phrase rows) ]
-      ]) step.found (Some rows) step.first
-      (some_back (open_after step.found.phrase depth) (λ next. elim (rows_in most next step.found.rest) [ None ↦ None | Some rows ↦ Some (onto step.found.phrase rows) ]) step.next (Some rows) step.opens
-        (some_back (rows_in most step.next step.found.rest) (λ rows. Some (onto step.found.phrase rows)) step.behind (Some rows) step.reads
-          (ap (λ (rs : List Trees). Some rs) step.made)))
+      | None ↦ None
+      | Some next ↦ elim (rows_in most next found.rest) [ None ↦ None | Some rows ↦ Some (onto found.phrase rows) ]
+    ]) step.found (Some rows) step.first
+    (some_back (open_after step.found.phrase depth) (λ next. elim (rows_in most next step.found.rest) [ None ↦ None | Some rows ↦ Some (onto step.found.phrase rows) ]) step.next (Some rows) step.opens
+    (some_back (rows_in most step.next step.found.rest) (λ rows. Some (onto step.found.phrase rows)) step.behind (Some rows) step.reads
+    (ap (λ (rs : List Trees). Some rs) step.made)))
 
 pub at_end : (most : ℕ) (bytes : List ℕ) → rows_in most zero bytes ≡ (if is_end bytes then Some [] else None)
 unfolding rows_in
@@ -78,7 +77,6 @@ HasRoom Closes left = Unit {0}
 HasRoom Yields left = 0 < left
 HasRoom (Says text) left = 0 < left
 HasRoom (Opens former name) left = 0 < left
-
 
 pub record IsRead (left depth : ℕ) (bytes : List ℕ) (rows : List Trees) : Type 0 where
   pub count : length rows ≡ depth
@@ -192,7 +190,7 @@ rows_read (suc most) left (suc depth) bytes rows sum e =
     let room = counts phrase left depth step.next step.opens sum in
     let read = rows_read most (left_after phrase left) step.next step.found.rest step.behind room.0 step.reads in
     subst (λ (rs : List Trees). IsRead left (suc depth) bytes rs) step.made
-      (read_onto left depth step.next phrase step.behind bytes step.found.rest found.fit found.spelling step.opens sum read)
+    (read_onto left depth step.next phrase step.behind bytes step.found.rest found.fit found.spelling step.opens sum read)
 
 has_a_byte : (phrase : Phrase) → 0 < length (phrase_bytes phrase)
 has_a_byte Closes = omega arith

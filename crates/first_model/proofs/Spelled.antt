@@ -1,11 +1,11 @@
 -- How the rows of open lists are spelled, and what a phrase in front of them adds.
-use Rattle.std.proofs.Common.{◌≡◌, ◌≢◌, ℕ, zero, suc, ◌+◌, ◌<◌, ◌≤◌, Bool, true, false, cond, ◌&&◌, ◌||◌, not, ◌==◌, nat_le, nat_lt, ◌⊎◌, inl, inr, List, [], ◌∷◌, ◌++◌, length, IsTrue, codes, refl, sym, ap, ◌∙◌, subst, append_assoc, append-nil, arith}
+use Rattle.std.proofs.Common.{◌≡◌, ◌≢◌, ℕ, Bool, true, false, cond, ◌||◌, ◌==◌, List, [], ◌∷◌, ◌++◌, codes, refl, ap, append_assoc, arith}
 use Rattle.std.specs.List.{list_all, flat_map, AllByRecursion}
-use Rattle.std.proofs.lemmas.Bool.{and_parts, and_from, cases_Bool}
+use Rattle.std.proofs.lemmas.Bool.{and_parts, and_from}
 use Rattle.std.proofs.lemmas.Bool.Decides.{nat_tests}
-use Rattle.first_model.specs.Trees.{Tree, Word, Number, Text, Branch, Trees, Nil, And, is_run_byte, is_word, is_plain, may_stand, escaped, quoted, canonical, canonical_row, canonical_rest, IsWithin, IsRowWithin}
-use Rattle.first_model.specs.Reading.{Former, Switching, Forking, Phrase, Opens, Says, Yields, Closes, onto, head_word}
-use Rattle.first_model.proofs.Phrases.{before_name, phrase_bytes, IsFit}
+use Rattle.first_model.specs.Trees.{Trees, is_plain, may_stand, escaped, canonical, canonical_row, canonical_rest}
+use Rattle.first_model.specs.Reading.{Switching, Forking, Phrase, Opens, Says, Yields, Closes, onto}
+use Rattle.first_model.proofs.Phrases.{phrase_bytes, IsFit}
 
 -- what is still to come of each open list, innermost first, each with its end
 abbrev pub spelled : List Trees → List ℕ
