@@ -10,21 +10,23 @@ use Rattle.first_model.specs.Reading.{rows_in, root_of, tree_in}
 use Rattle.first_model.specs.Script.{Block, script_of, statements}
 use Rattle.first_model.specs.Answer.{accepted, if_few, most_bytes, most_statements}
 use Rattle.first_model.specs.Laws.{IsSpelled, IsAccepted, AcceptsExactly}
+use Rattle.first_model.proofs.Choices.{some_parts, some_back, unless_some, unless_back, when_some}
 use Rattle.first_model.proofs.Phrases.{begins_is}
 use Rattle.first_model.proofs.Spelled.{spelled, NoBackslash, plain_joined, plain_parts}
-use Rattle.first_model.proofs.RowsRead.{some_parts, some_back, IsRead, rows_read, enough_fuel, at_end, ended_behind}
-use Rattle.first_model.proofs.Forms.{Forms, Last, row_of, script_shape, unless_some, unless_back, when_some}
+use Rattle.first_model.proofs.RowsRead.{IsRead, rows_read, enough_fuel, at_end, ended_behind}
+use Rattle.first_model.proofs.Forms.{Forms, Last, row_of, script_shape}
 use Rattle.first_model.proofs.ReadBack.{CanRead, row_back}
 
 -- what stands before the statements of `main`
 abbrev pub opening : List ℕ
 opening = codes "(eio 1 (main"
 
+-- a root is spelled so: the opening, and the rows of its two open lists
 root_spelled : (body rest : Trees) → canonical (root_of (body ∷ rest ∷ [])) ≡ opening ++ spelled (body ∷ rest ∷ [])
 unfolding canonical canonical_row canonical_rest
 root_spelled body rest = rw (decimal_digit 1 (omega arith)) (simp append_assoc)
 
--- what bytes are of which a tree is read
+-- what is known of bytes of which a tree is read
 pub record IsTreeOf (bytes : List ℕ) (tree : Tree) : Type 0 where
   pub within : IsWithin 64 tree
   pub spelling : (bytes ≡ canonical tree) ⊎ (bytes ≡ canonical tree ++ 10 ∷ [])
@@ -41,6 +43,7 @@ root_read bytes behind (body ∷ rest ∷ []) e read = record {
   plain = subst (λ (bs : List ℕ). NoBackslash bs) (sym e) (plain_joined opening behind (omega arith) read.plain);
 }
 
+-- reading a tree is sound
 pub tree_read : (bytes : List ℕ) (tree : Tree) → tree_in bytes ≡ Some tree → IsTreeOf bytes tree
 unfolding tree_in
 tree_read bytes tree e =
@@ -49,12 +52,18 @@ tree_read bytes tree e =
     subst (λ (t : Tree). IsTreeOf bytes t) (same_Some _ _ parts.2)
     (root_read bytes (drop 12 bytes) parts.0 (begins_is bytes opening begins.0) (rows_read (length bytes) 62 2 (drop 12 bytes) parts.0 refl parts.1))
 
+-- nothing, or one LF
+abbrev IsTail : List ℕ → Type 0
+IsTail tail = (tail ≡ []) ⊎ (tail ≡ 10 ∷ [])
+
 -- the end of the bytes is read as no row
-end_back : (tail : List ℕ) → (tail ≡ []) ⊎ (tail ≡ 10 ∷ []) → CanRead 0 tail []
+end_back : (tail : List ℕ) → IsTail tail → CanRead 0 tail []
 end_back tail (inl e) = record { most = 0; reads = at_end 0 tail ∙ rw e refl }
 end_back tail (inr e) = record { most = 0; reads = at_end 0 tail ∙ rw e refl }
 
-script_read : (fs : Forms) (tail : List ℕ) → (tail ≡ []) ⊎ (tail ≡ 10 ∷ []) → IsWithin 64 (root_of (row_of fs ∷ Nil ∷ [])) → NoBackslash (canonical_rest (row_of fs)) → CanRead 2 (spelled (row_of fs ∷ Nil ∷ []) ++ tail) (row_of fs ∷ Nil ∷ [])
+-- the rows of a script in its root
+script_read : (fs : Forms) (tail : List ℕ) → IsTail tail → IsWithin 64 (root_of (row_of fs ∷ Nil ∷ [])) → NoBackslash (canonical_rest (row_of fs)) →
+    CanRead 2 (spelled (row_of fs ∷ Nil ∷ []) ++ tail) (row_of fs ∷ Nil ∷ [])
 unfolding IsWithin IsRowWithin canonical canonical_row canonical_rest
 script_read fs tail ends within plain =
     row_back fs 62 1 (Nil ∷ []) tail refl within.1.1.0.1 plain
@@ -68,7 +77,8 @@ tree_at behind rows can =
     (enough_fuel can.most 2 behind rows can.reads (length (opening ++ behind)) longer) refl
 
 -- a spelling behind the opening, with the bytes that end it
-opened_spelling : (bytes tail : List ℕ) (body rest : Trees) → bytes ≡ canonical (root_of (body ∷ rest ∷ [])) ++ tail → bytes ≡ opening ++ (spelled (body ∷ rest ∷ []) ++ tail)
+opened_spelling : (bytes tail : List ℕ) (body rest : Trees) → bytes ≡ canonical (root_of (body ∷ rest ∷ [])) ++ tail →
+    bytes ≡ opening ++ (spelled (body ∷ rest ∷ []) ++ tail)
 opened_spelling bytes tail body rest e = e ∙ (ap (λ (bs : List ℕ). bs ++ tail) (root_spelled body rest) ∙ append_assoc opening (spelled (body ∷ rest ∷ [])) tail)
 
 body_plain : (bytes tail : List ℕ) (body rest : Trees) → bytes ≡ opening ++ (spelled (body ∷ rest ∷ []) ++ tail) → NoBackslash bytes → NoBackslash (canonical_rest body)
@@ -77,16 +87,20 @@ body_plain bytes tail body rest e plain =
     let rows = plain_parts (spelled (body ∷ rest ∷ [])) tail behind.1 in
     (plain_parts (canonical_rest body) (41 ∷ spelled (rest ∷ [])) rows.0).0
 
-script_back : (bytes : List ℕ) (fs : Forms) (tail : List ℕ) → (tail ≡ []) ⊎ (tail ≡ 10 ∷ []) → NoBackslash bytes → bytes ≡ canonical (root_of (row_of fs ∷ Nil ∷ [])) ++ tail → IsWithin 64 (root_of (row_of fs ∷ Nil ∷ [])) → tree_in bytes ≡ Some (root_of (row_of fs ∷ Nil ∷ []))
+script_back : (bytes : List ℕ) (fs : Forms) (tail : List ℕ) → IsTail tail → NoBackslash bytes →
+    bytes ≡ canonical (root_of (row_of fs ∷ Nil ∷ [])) ++ tail → IsWithin 64 (root_of (row_of fs ∷ Nil ∷ [])) →
+    tree_in bytes ≡ Some (root_of (row_of fs ∷ Nil ∷ []))
 script_back bytes fs tail ends plain e within =
     let rows = row_of fs ∷ Nil ∷ [] in
     let spelling = opened_spelling bytes tail (row_of fs) Nil e in
     ap tree_in spelling ∙ tree_at (spelled rows ++ tail) rows (script_read fs tail ends within (body_plain bytes tail (row_of fs) Nil spelling plain))
 
-shaped_back : (bytes : List ℕ) (tree : Tree) (fs : Forms) (tail : List ℕ) → (tail ≡ []) ⊎ (tail ≡ 10 ∷ []) → NoBackslash bytes → tree ≡ root_of (row_of fs ∷ Nil ∷ []) → bytes ≡ canonical tree ++ tail → IsWithin 64 tree → tree_in bytes ≡ Some tree
+shaped_back : (bytes : List ℕ) (tree : Tree) (fs : Forms) (tail : List ℕ) → IsTail tail → NoBackslash bytes → tree ≡ root_of (row_of fs ∷ Nil ∷ []) →
+    bytes ≡ canonical tree ++ tail → IsWithin 64 tree → tree_in bytes ≡ Some tree
 shaped_back bytes tree fs tail ends plain same =
     subst (λ (t : Tree). bytes ≡ canonical t ++ tail → IsWithin 64 t → tree_in bytes ≡ Some t) (sym same) (script_back bytes fs tail ends plain)
 
+-- reading a tree is complete
 pub spelled_back : (bytes : List ℕ) (main : Block) → (is : IsSpelled bytes main) → NoBackslash bytes → tree_in bytes ≡ Some is.tree
 spelled_back bytes main is plain =
     let shape = script_shape is.tree main is.script in

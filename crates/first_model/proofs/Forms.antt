@@ -1,11 +1,12 @@
--- The trees that are scripts: their statements have four shapes, and no other.
-use Rattle.std.proofs.Common.{◌≡◌, ℕ, Bool, true, false, cond, bytes_eq, List, [], ◌∷◌, ℤ, pos, negsuc, Option, Some, None, codes, is_some, refl, ap}
+-- The trees that are scripts: their statements have four shapes, and no other (`script_shape`).
+use Rattle.std.proofs.Common.{◌≡◌, ℕ, true, cond, bytes_eq, List, [], ◌∷◌, ℤ, pos, negsuc, Some, codes, is_some, refl, ap}
 use Rattle.std.proofs.lemmas.Bool.{eqb-true, cond_both, false≢true}
 use Rattle.std.proofs.lemmas.Option.{none-some}
 use Rattle.std.proofs.lemmas.Slice.Eq.{bytes_eq-Decides}
 use Rattle.first_model.specs.Trees.{Tree, Word, Number, Text, Branch, Trees, Nil, And}
 use Rattle.first_model.specs.Reading.{Former, Switching, Forking, head_word, root_of}
 use Rattle.first_model.specs.Script.{Statement, Switch, Fork, Block, Then, Scope, place_of, ◌>>=◌, Head, SwitchHead, ForkHead, TraceHead, YieldHead, OtherHead, head_of, statement, form, block, is_one, script_of}
+use Rattle.first_model.proofs.Choices.{bind_parts, unless_some, when_some}
 
 -- a statement's shape, and a row of them
 mutual
@@ -18,6 +19,7 @@ mutual
     Last : Forms
     Before : Form → Forms → Forms
 
+-- the trees of that shape
 abbrev mutual
   pub tree_of : Form → Tree
   tree_of (Opening former name body) = Branch (And (Word (head_word former)) (And (Word name) (row_of body)))
@@ -27,11 +29,6 @@ abbrev mutual
   pub row_of : Forms → Trees
   row_of Last = Nil
   row_of (Before form forms) = And (tree_of form) (row_of forms)
-
--- what stands before a bind that gives a value
-pub bind_parts : {A B : Type 0} (o : Option A) (f : A → Option B) (y : B) → (o >>= f) ≡ Some y → (x : A) × (o ≡ Some x) × (f x ≡ Some y)
-bind_parts None f y e = absurd (none-some _ e)
-bind_parts (Some x) f y e = (x, refl, e)
 
 -- the word that begins a statement of each kind
 abbrev pub HasHead : Head → List ℕ → Type 0
@@ -51,23 +48,13 @@ has_head word =
     (has_head_if word (codes "trace") TraceHead _ (λ e. e)
     (has_head_if word (codes "yield") YieldHead OtherHead (λ e. e) tt)))
 
-named : (former : Former) (word name : List ℕ) (body : Trees) (forms : Forms) → word ≡ head_word former → body ≡ row_of forms → Branch (And (Word word) (And (Word name) body)) ≡ tree_of (Opening former name forms)
+-- the equations of the parts, put together
+named : (former : Former) (word name : List ℕ) (body : Trees) (forms : Forms) → word ≡ head_word former → body ≡ row_of forms →
+    Branch (And (Word word) (And (Word name) body)) ≡ tree_of (Opening former name forms)
 named former word name body forms e f = rw (e, f) refl
 
 before : (tree : Tree) (rest : Trees) (f : Form) (fs : Forms) → tree ≡ tree_of f → rest ≡ row_of fs → And tree rest ≡ row_of (Before f fs)
 before tree rest f fs d e = rw (d, e) refl
-
--- a choice with no value in one case
-pub unless_some : {A : Type 0} (b : Bool) (o : Option A) (y : A) → elim b [ true ↦ None | false ↦ o ] ≡ Some y → (b ≡ false) × (o ≡ Some y)
-unless_some true o y e = absurd (none-some _ e)
-unless_some false o y e = (refl, e)
-
-pub unless_back : {A : Type 0} (b : Bool) (o : Option A) (y : Option A) → b ≡ false → o ≡ y → elim b [ true ↦ None | false ↦ o ] ≡ y
-unless_back b o y e h = rw e h
-
-pub when_some : {A : Type 0} (b : Bool) (o : Option A) (y : A) → elim b [ false ↦ None | true ↦ o ] ≡ Some y → (b ≡ true) × (o ≡ Some y)
-when_some true o y e = (refl, e)
-when_some false o y e = absurd (none-some _ e)
 
 one_is : (version : ℤ) → is_one version ≡ true → version ≡ pos 1
 one_is (pos n) e = ap pos (eqb-true n 1 e)
@@ -77,6 +64,7 @@ rooted : (root word : List ℕ) (version : ℤ) (body : Trees) (fs : Forms) → 
     Branch (And (Word root) (And (Number version) (And (Branch (And (Word word) body)) Nil))) ≡ root_of (row_of fs ∷ Nil ∷ [])
 rooted root word version body fs c d e f = rw (c, d, e, f) refl
 
+-- by cases as `statement`, `form` and `block` have them
 mutual
   unfolding statement form block
 
@@ -84,7 +72,8 @@ mutual
   statement_shape scope (Branch (And (Word word) operands)) s e = form_shape scope word (head_of word) operands s (has_head word) e
   statement_shape scope tree s e = absurd (none-some _ e)
 
-  form_shape : (scope : Scope) (word : List ℕ) (h : Head) (operands : Trees) (s : Statement) → HasHead h word → form scope h operands ≡ Some s → (f : Form) × (Branch (And (Word word) operands) ≡ tree_of f)
+  form_shape : (scope : Scope) (word : List ℕ) (h : Head) (operands : Trees) (s : Statement) → HasHead h word → form scope h operands ≡ Some s →
+      (f : Form) × (Branch (And (Word word) operands) ≡ tree_of f)
   form_shape scope word SwitchHead (And (Word name) body) s head e =
       let inner = bind_parts (block (name ∷ scope) body) (λ b. Some (Switch b)) s (unless_some (is_some (place_of scope name)) _ _ e).1 in
       let shape = block_shape (name ∷ scope) body inner.0 inner.1 in

@@ -1,4 +1,4 @@
--- The spelled rows of a script are read back as they are.
+-- The spelled rows of a script are read back as they are (`row_back`).
 -- By induction on the statements, last to first: each stands as one phrase in front of rows that are read back already.
 use Rattle.std.proofs.Common.{◌≡◌, ℕ, zero, suc, pred, ◌+◌, ◌<◌, true, if◌then◌else◌, ◌&&◌, nat_le, nat_lt, List, [], ◌∷◌, ◌++◌, length, Some, None, codes, refl, sym, ap, ◌∙◌, subst, append_assoc, arith}
 use Rattle.std.specs.List.{list_all, flat_map}
@@ -15,7 +15,9 @@ pub record CanRead (depth : ℕ) (bytes : List ℕ) (rows : List Trees) : Type 0
   pub most : ℕ
   pub reads : rows_in most depth bytes ≡ Some rows
 
-phrase_back : (phrase : Phrase) (depth next : ℕ) (behind : List Trees) (tail : List ℕ) → IsFit phrase → IsEnough phrase behind → MayFollow phrase (spelled behind ++ tail) → open_after phrase depth ≡ Some next → CanRead next (spelled behind ++ tail) behind →
+-- a phrase before rows that are read back
+phrase_back : (phrase : Phrase) (depth next : ℕ) (behind : List Trees) (tail : List ℕ) → IsFit phrase → IsEnough phrase behind →
+    MayFollow phrase (spelled behind ++ tail) → open_after phrase depth ≡ Some next → CanRead next (spelled behind ++ tail) behind →
     CanRead (suc depth) (spelled (onto phrase behind) ++ tail) (onto phrase behind)
 phrase_back phrase depth next behind tail fit enough follow opens can =
     let rest = spelled behind ++ tail in
@@ -33,6 +35,7 @@ phrase_back phrase depth next behind tail fit enough follow opens can =
       });
     })
 
+-- the lists that are open behind a phrase that opens one, or two
 opens_more : (left depth : ℕ) → left + suc depth ≡ 64 → 0 < left → (if nat_lt (depth + 1) 64 then Some (depth + 1) else None) ≡ Some (suc depth)
 opens_more left depth sum room =
     let below : nat_lt (depth + 1) 64 ≡ true = lt-ltb (depth + 1) 64 (omega arith) in
@@ -59,20 +62,24 @@ ends_name Nil rows tail = record { first = 41; more = spelled rows ++ tail; is =
 ends_name (And tree row) rows tail = record { first = 32; more = ((canonical tree ++ canonical_rest row) ++ 41 ∷ spelled rows) ++ tail; is = refl; stops = refl }
 
 -- the pieces of a list's spelling, and what is behind it
-plain_pieces : (head name body behind : List ℕ) → NoBackslash (((head ++ 32 ∷ (name ++ body)) ++ 41 ∷ []) ++ behind) → NoBackslash name × NoBackslash body × NoBackslash behind
+plain_pieces : (head name body behind : List ℕ) → NoBackslash (((head ++ 32 ∷ (name ++ body)) ++ 41 ∷ []) ++ behind) →
+    NoBackslash name × NoBackslash body × NoBackslash behind
 plain_pieces head name body behind h =
-    let a = plain_parts ((head ++ 32 ∷ (name ++ body)) ++ 41 ∷ []) behind h in
-    let b = plain_parts (head ++ 32 ∷ (name ++ body)) (41 ∷ []) a.0 in
-    let c = plain_parts head (32 ∷ (name ++ body)) b.0 in
-    let d = plain_parts name body c.1.1 in
-    (d.0, d.1, a.1)
+    let before = plain_parts ((head ++ 32 ∷ (name ++ body)) ++ 41 ∷ []) behind h in
+    let inner = plain_parts (head ++ 32 ∷ (name ++ body)) (41 ∷ []) before.0 in
+    let operands = plain_parts head (32 ∷ (name ++ body)) inner.0 in
+    let parts = plain_parts name body operands.1.1 in
+    (parts.0, parts.1, before.1)
 
+-- a text within the limits, spelled with no backslash
 text_fits : (text : List ℕ) → (list_all may_stand text && nat_le (length text) 1024) ≡ true → NoBackslash (quoted text) → IsFit (Says text)
 text_fits text within plain =
     let both = and_parts _ _ within in
     (text_is_plain text both.0 (plain_parts (flat_map escaped text) (34 ∷ []) plain.1).0, leb-true _ _ both.1)
 
-pub row_back : (fs : Forms) (left depth : ℕ) (rows : List Trees) (tail : List ℕ) → left + suc depth ≡ 64 → IsRowWithin left (row_of fs) → NoBackslash (canonical_rest (row_of fs)) → CanRead depth (spelled rows ++ tail) rows →
+-- reading rows is complete
+pub row_back : (fs : Forms) (left depth : ℕ) (rows : List Trees) (tail : List ℕ) → left + suc depth ≡ 64 → IsRowWithin left (row_of fs) →
+    NoBackslash (canonical_rest (row_of fs)) → CanRead depth (spelled rows ++ tail) rows →
     CanRead (suc depth) (spelled (row_of fs ∷ rows) ++ tail) (row_of fs ∷ rows)
 unfolding canonical canonical_row canonical_rest IsWithin IsRowWithin
 row_back Last left depth rows tail sum within plain can = phrase_back Closes depth depth rows tail tt tt tt refl can

@@ -28,6 +28,7 @@ plain_joined (x ∷ xs) ys g h = (g.0, plain_joined xs ys g.1 h)
 plain_byte : (b : ℕ) → is_plain b ≡ true → escaped b ≡ b ∷ []
 plain_byte b e = grind (arith, nat_tests)
 
+-- a spelling with no backslash is no escape
 not_escaped : (c : Bool) (x y : List ℕ) → NoBackslash (cond c (92 ∷ x) y) → (c ≡ false) × NoBackslash y
 not_escaped true x y h = absurd (h.0 refl)
 not_escaped false x y h = (refl, h)
@@ -44,12 +45,14 @@ byte_plain b e h =
     let rest = not_escaped _ _ _ tab.1 in
     stands_plain b e lf.0 cr.0 tab.0 rest.0
 
+-- a text of plain bytes is spelled as itself
 pub quoted_is : (text : List ℕ) → list_all is_plain text ≡ true → flat_map escaped text ≡ text
 quoted_is [] e = refl
 quoted_is (b ∷ text) e =
     let both = and_parts _ _ e in
     rw (plain_byte b both.0) (ap (λ (bs : List ℕ). b ∷ bs) (quoted_is text both.1))
 
+-- a text that is spelled with no backslash is plain
 pub text_is_plain : (text : List ℕ) → list_all may_stand text ≡ true → NoBackslash (flat_map escaped text) → list_all is_plain text ≡ true
 text_is_plain [] e h = refl
 text_is_plain (b ∷ text) e h =
@@ -57,7 +60,8 @@ text_is_plain (b ∷ text) e h =
     let parts = plain_parts (escaped b) (flat_map escaped text) h in
     and_from _ _ (byte_plain b both.0 parts.0) (text_is_plain text both.1 parts.1)
 
-regrouped : (escapes text row rest : List ℕ) → escapes ≡ text → codes " (trace \"" ++ (((((escapes ++ 34 ∷ []) ++ []) ++ 41 ∷ []) ++ row) ++ rest) ≡ (codes " (trace \"" ++ (text ++ codes "\")")) ++ (row ++ rest)
+regrouped : (escapes text row rest : List ℕ) → escapes ≡ text →
+    codes " (trace \"" ++ (((((escapes ++ 34 ∷ []) ++ []) ++ 41 ∷ []) ++ row) ++ rest) ≡ (codes " (trace \"" ++ (text ++ codes "\")")) ++ (row ++ rest)
 regrouped escapes text row rest e = rw e (simp append_assoc)
 
 -- as many rows as a phrase needs
@@ -70,6 +74,7 @@ IsEnough Yields (row ∷ rows) = Unit {0}
 IsEnough Yields _ = ⊥
 IsEnough Closes rows = Unit {0}
 
+-- a phrase's bytes before the spelled rows spell the rows that the phrase makes
 pub spelled_onto : (phrase : Phrase) (rows : List Trees) → IsFit phrase → IsEnough phrase rows → spelled (onto phrase rows) ≡ phrase_bytes phrase ++ spelled rows
 unfolding canonical canonical_row canonical_rest
 spelled_onto Closes rows fit enough = refl
