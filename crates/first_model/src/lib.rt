@@ -4,6 +4,8 @@
 //! the definitions share with code, and the laws of the definitions, each as the contract of an empty function.
 #![tactic(auto)]
 
+pub mod laws;
+
 /// How the machine's answer to an input ends.
 #[derive(Clone, Copy, Debug, PartialEq, Eq)]
 pub enum Ending {
