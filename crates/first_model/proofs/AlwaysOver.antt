@@ -1,10 +1,9 @@
--- Every answer is that the run came to its end, or that there was none.
+-- Every answer is that the run came to its end, or that there was none: the contract of `always_over`.
+--
 -- In a run each state is sound, and its potential with its live fibers, or with its contexts, is below the limits:
 -- a move lowers the potential by one at least, and raises each of these by one at most.
-use Rattle.std.proofs.Common.{◌≡◌, ℕ, zero, suc, ◌+◌, ◌*◌, ◌≤◌, ◌<◌, ◌⊎◌, inl, inr, Bool, true, false, List, [], ◌∷◌, ◌++◌, length, nat_le, nat_lt, slice_get, get_or, Option, Some, None, refl, ap, sym, subst, ◌∙◌, arith, leb-true}
+use Rattle.std.proofs.Common.{◌≡◌, ℕ, zero, suc, ◌+◌, ◌≤◌, ◌<◌, ◌⊎◌, inl, inr, Bool, true, false, List, [], ◌∷◌, ◌++◌, length, nat_le, nat_lt, slice_get, get_or, Option, Some, None, refl, ap, sym, subst, ◌∙◌, arith, leb-true}
 use Rattle.std.proofs.lemmas.Option.{slice_get-get_or, same_Some, none-some, cond_some}
-use Rattle.first_model.specs.declared.Ending.{Ending}
-use Rattle.first_model.specs.declared.Ending.TheVariants as ending
 use Rattle.first_model.specs.Trees.{Tree}
 use Rattle.first_model.specs.Reading.{tree_in}
 use Rattle.first_model.specs.Script.{Block, Done, script_of, statements}
@@ -12,9 +11,9 @@ use Rattle.first_model.specs.Machine.{Run, Fiber, State, Moved, next_call, fiber
 use Rattle.first_model.specs.Answer.{Answer, most_bytes, accepted, if_few, has_main_ended, ending_in, answer, answer_in, refusal}
 use Rattle.first_model.specs.Laws.{IsOver, AlwaysOver}
 use Rattle.first_model.proofs.Lookups.{In}
-use Rattle.first_model.proofs.Works.{marks, cost, cost-statements, next_call-cost, next_call-marks}
+use Rattle.first_model.proofs.Works.{marks, cost-statements, next_call-cost, next_call-marks}
 use Rattle.first_model.proofs.Moves.{child}
-use Rattle.first_model.proofs.Potential.{potential, Falls, IsNext, call_falls}
+use Rattle.first_model.proofs.Potential.{potential, Falls, call_falls}
 use Rattle.first_model.proofs.Sound.{Sound}
 use Rattle.first_model.proofs.NotStuck.{IsSound, IsTurn, all_ended, call_keeps}
 

@@ -1,7 +1,8 @@
--- What each call leaves, case by case: to show something of the next state, show it of these.
-use Rattle.std.proofs.Common.{◌≡◌, ℕ, ◌+◌, ◌-◌, ◌<◌, Bool, true, false, not, ◌==◌, List, [], ◌∷◌, ◌++◌, length, drop, filter, slice_get, slice_set, slice_index, Option, Some, None, refl, subst, sym, lt-ltb}
+-- What each call leaves, case by case, as one state each: to show something of the next state, show it of these.
+-- The four lemmas at the end say so, for `switch`, `fork`, `close` and `end`; `trace` and `yield` have one case.
+use Rattle.std.proofs.Common.{◌≡◌, ℕ, ◌+◌, ◌-◌, ◌<◌, Bool, true, false, List, [], ◌∷◌, ◌++◌, length, drop, slice_set, slice_index, Option, Some, None, refl, lt-ltb}
 use Rattle.first_model.specs.Script.{Block}
-use Rattle.first_model.specs.Machine.{Work, Run, CloseMark, Fiber, Switched, State, switch_at, working, opens_switch, forks, closes, ends, detached, most_fibers, most_contexts}
+use Rattle.first_model.specs.Machine.{Work, Run, CloseMark, Fiber, Switched, State, switch_at, working, opens_switch, forks, closes, ends, detached}
 use Rattle.first_model.proofs.Lookups.{without}
 
 abbrev pub fresh : Switched
@@ -69,9 +70,9 @@ pub switch_case : (P : State → Type 0) (g : ℕ) (fiber : Fiber) (body : Block
 switch_case P g fiber body work s few h = rw (lt-ltb s.contexts 4096 few, opens_switch) h
 
 pub fork_cases : (P : State → Type 0) (g : ℕ) (fiber : Fiber) (others : List ℕ) (place : ℕ) (body : Block) (work : List Work) (s : State) → s.live < 1024
-  → P (working g fiber work s)
-  → ((switch_at s (slice_index fiber.scope place)).finished ≡ false → P (after_fork g fiber others (slice_index fiber.scope place) body work s))
-  → P (forks g fiber others place body work s).next
+    → P (working g fiber work s)
+    → ((switch_at s (slice_index fiber.scope place)).finished ≡ false → P (after_fork g fiber others (slice_index fiber.scope place) body work s))
+    → P (forks g fiber others place body work s).next
 fork_cases P g fiber others place body work s few nothing more = by (switch_at s (slice_index fiber.scope place)).finished refl
   where
     by : (b : Bool) → (switch_at s (slice_index fiber.scope place)).finished ≡ b → P (forks g fiber others place body work s).next
@@ -79,9 +80,9 @@ fork_cases P g fiber others place body work s few nothing more = by (switch_at s
     by false e = rw (e, lt-ltb s.live 1024 few, forks) (more e)
 
 pub close_cases : (P : State → Type 0) (g : ℕ) (fiber : Fiber) (others : List ℕ) (n : ℕ) (work : List Work) (s : State)
-  → ((switch_at s n).attached ≡ [] → P (after_close g fiber n work s))
-  → ((h : ℕ) (hs : List ℕ) → (switch_at s n).attached ≡ h ∷ hs → P (after_wait g fiber others n work s))
-  → P (closes g fiber others n work s).next
+    → ((switch_at s n).attached ≡ [] → P (after_close g fiber n work s))
+    → ((h : ℕ) (hs : List ℕ) → (switch_at s n).attached ≡ h ∷ hs → P (after_wait g fiber others n work s))
+    → P (closes g fiber others n work s).next
 close_cases P g fiber others n work s none some = by (switch_at s n).attached refl
   where
     by : (hs : List ℕ) → (switch_at s n).attached ≡ hs → P (closes g fiber others n work s).next
@@ -89,18 +90,20 @@ close_cases P g fiber others n work s none some = by (switch_at s n).attached re
     by (h ∷ hs) e = rw (e, closes) (some h hs e)
 
 pub end_cases : (P : State → Type 0) (g : ℕ) (fiber : Fiber) (others : List ℕ) (s : State)
-  → (fiber.home ≡ None → P (after_main g fiber others s))
-  → ((n : ℕ) → fiber.home ≡ Some n → (staying g n s ≡ [] → (switch_at s n).closer ≡ None) → P (after_end g fiber others n s))
-  → ((n closer : ℕ) → fiber.home ≡ Some n → staying g n s ≡ [] → (switch_at s n).closer ≡ Some closer → P (after_wake g fiber others n closer s))
-  → P (ends g fiber others s)
+    → (fiber.home ≡ None → P (after_main g fiber others s))
+    → ((n : ℕ) → fiber.home ≡ Some n → (staying g n s ≡ [] → (switch_at s n).closer ≡ None) → P (after_end g fiber others n s))
+    → ((n closer : ℕ) → fiber.home ≡ Some n → staying g n s ≡ [] → (switch_at s n).closer ≡ Some closer → P (after_wake g fiber others n closer s))
+    → P (ends g fiber others s)
 end_cases P g fiber others s main leaves wakes = by fiber.home refl
   where
     woken : (n : ℕ) (closer : Option ℕ) → fiber.home ≡ Some n → staying g n s ≡ [] → (switch_at s n).closer ≡ closer → P (ends g fiber others s)
     woken n None e stay c = rw (e, stay, c, ends, detached) (rw stay at (leaves n e (λ _. c)))
     woken n (Some closer) e stay c = rw (e, stay, c, ends, detached) (wakes n closer e stay c)
+
     left : (n : ℕ) (hs : List ℕ) → fiber.home ≡ Some n → staying g n s ≡ hs → P (ends g fiber others s)
     left n [] e stay = woken n (switch_at s n).closer e stay refl
     left n (h ∷ hs) e stay = rw (e, stay, ends, detached) (rw stay at (leaves n e (λ none. cc)))
+
     by : (home : Option ℕ) → fiber.home ≡ home → P (ends g fiber others s)
     by None e = rw (e, ends) (main e)
     by (Some n) e = left n (staying g n s) e refl

@@ -1,12 +1,14 @@
--- Each call keeps the order of `Sound`, and under it main has ended once no fiber is ready.
-use Rattle.std.proofs.Common.{◌≡◌, ◌≢◌, ℕ, zero, suc, ◌+◌, ◌≤◌, ◌<◌, ◌⊎◌, inl, inr, Bool, true, false, List, [], ◌∷◌, ◌++◌, length, drop, slice_get, slice_set, slice_index, Option, Some, None, refl, ap, sym, subst, ◌∙◌, arith, length-set, length-append, true≢false}
-use Rattle.std.proofs.lemmas.Option.{slice_get_within, slice_get-get_or, slice_get_past, same_Some, none-some}
+-- Each call keeps the order of `Sound` (`call_keeps`), and under it every fiber has ended once none is ready (`all_ended`).
+--
+-- Who waits for a switch has somebody attached to it, who waits for a later switch, and there are only so many switches.
+use Rattle.std.proofs.Common.{◌≡◌, ℕ, zero, suc, ◌+◌, ◌≤◌, ◌<◌, ◌⊎◌, inl, inr, Bool, true, false, List, [], ◌∷◌, ◌++◌, length, drop, slice_get, slice_set, slice_index, Option, Some, None, refl, ap, sym, subst, ◌∙◌, arith, length-set, length-append, true≢false}
+use Rattle.std.proofs.lemmas.Option.{slice_get_within, slice_get-get_or, same_Some, none-some}
 use Rattle.first_model.specs.Script.{Block}
 use Rattle.first_model.specs.Machine.{Work, Run, CloseMark, Fiber, Switched, State, switch_at, working, Ask, AskSwitch, AskFork, AskTrace, AskYield, AskClose, AskEnd, call}
 use Rattle.first_model.proofs.Lookups.{In, In-append_left, In-append_last, In-append_cases, In-without, written, pushed_last}
 use Rattle.first_model.proofs.Works.{marks, ask_marks}
 use Rattle.first_model.proofs.Moves.{fresh, child, after_switch, after_fork, after_close, after_wait, after_main, staying, after_end, after_wake, switch_case, fork_cases, close_cases, end_cases}
-use Rattle.first_model.proofs.Sound.{Closes, IsMember, Waits, IsInhabited, Sound, IsFree, MayBecome, MayHave, fiber_changes, ready_changes, switch_changes, switch_opens, fiber_begins}
+use Rattle.first_model.proofs.Sound.{IsInhabited, Sound, IsFree, fiber_changes, ready_changes, switch_changes, switch_opens, fiber_begins}
 
 abbrev pub IsSound : State → Type 0
 IsSound s = Sound s.fibers s.ready s.switches
@@ -49,6 +51,7 @@ open_stands s n = by (slice_get s.switches n)
   where
     at : Option Switched → Switched
     at o = elim o [ Some switch ↦ switch | None ↦ record { attached = []; closer = None; finished = true } ]
+
     by : (o : Option Switched) → (at o).finished ≡ false → o ≡ Some (at o)
     by None e = absurd (true≢false e)
     by (Some switch) e = refl
@@ -60,9 +63,9 @@ inhabited (x ∷ xs) h = record { member = x; stands = inl refl }
 module _ (fibers : List Fiber) (ready : List ℕ) (switches : List Switched) (g : ℕ) (f : Fiber) (s : Sound fibers ready switches) (stands : slice_get fibers g ≡ Some f) where
   -- a fiber that goes on
   goes_on : (e : Fiber) → e.home ≡ f.home → e.ended ≡ f.ended
-    → ((n : ℕ) (switch : Switched) → slice_get switches n ≡ Some switch → switch.closer ≡ Some g → In n (marks f.work) → In n (marks e.work))
-    → ((m : ℕ) → In m (marks e.work) → In m (marks f.work) ⊎ IsFree fibers (length switches) f.home m)
-    → Sound (slice_set fibers g e) ready switches
+      → ((n : ℕ) (switch : Switched) → slice_get switches n ≡ Some switch → switch.closer ≡ Some g → In n (marks f.work) → In n (marks e.work))
+      → ((m : ℕ) → In m (marks e.work) → In m (marks f.work) ⊎ IsFree fibers (length switches) f.home m)
+      → Sound (slice_set fibers g e) ready switches
   goes_on e home ended closes more = fiber_changes fibers ready switches g f e s (record {
     stands = stands;
     home = home;
@@ -78,10 +81,10 @@ module _ (fibers : List Fiber) (ready : List ℕ) (switches : List Switched) (g 
 
   -- a fiber that closes none and is attached to none ends, and loses its places in the ready list
   fiber_ends : (e : Fiber) (others : List ℕ) → e.home ≡ f.home → e.ended ≡ true → marks f.work ≡ [] → marks e.work ≡ []
-    → ((n : ℕ) (switch : Switched) → slice_get switches n ≡ Some switch → In g switch.attached → ⊥)
-    → ((k : ℕ) → In k others → In k ready)
-    → ((k : ℕ) → In k ready → (k ≡ g) ⊎ In k others)
-    → Sound (slice_set fibers g e) others switches
+      → ((n : ℕ) (switch : Switched) → slice_get switches n ≡ Some switch → In g switch.attached → ⊥)
+      → ((k : ℕ) → In k others → In k ready)
+      → ((k : ℕ) → In k ready → (k ≡ g) ⊎ In k others)
+      → Sound (slice_set fibers g e) others switches
   fiber_ends e others home ended none after nowhere fewer most =
       let t = fiber_changes fibers ready switches g f e s (record {
         stands = stands;
@@ -109,8 +112,8 @@ yield_keeps : (g : ℕ) (fiber : Fiber) (others : List ℕ) (work : List Work) (
 yield_keeps g fiber others work s h same =
     let t = trace_keeps g fiber others work s h same in
     ready_changes (working g fiber work s).fibers s.ready (others ++ g ∷ []) s.switches t
-      (λ k i. t.queued k (subst (In k) (sym h.ready) (elim (In-append_cases k others (g ∷ []) i) [ inl j ↦ inr j | inr j ↦ elim j [ inl e ↦ inl e | inr none ↦ absurd none ] ])))
-      (λ k x at live i. inl (back k (subst (In k) h.ready i)))
+    (λ k i. t.queued k (subst (In k) (sym h.ready) (elim (In-append_cases k others (g ∷ []) i) [ inl j ↦ inr j | inr j ↦ elim j [ inl e ↦ inl e | inr none ↦ absurd none ] ])))
+    (λ k x at live i. inl (back k (subst (In k) h.ready i)))
   where
     back : (k : ℕ) → In k (g ∷ others) → In k (others ++ g ∷ [])
     back k (inl e) = subst (λ z. In z (others ++ g ∷ [])) (sym e) (In-append_last g others)
@@ -120,8 +123,8 @@ switch_keeps : (g : ℕ) (fiber : Fiber) (others : List ℕ) (body : Block) (wor
 switch_keeps g fiber others body work s h same =
     let t = switch_opens s.fibers s.ready s.switches h.sound in
     goes_on s.fibers s.ready (s.switches ++ fresh ∷ []) g fiber t h.stands (record fiber { work = Run body ∷ CloseMark (length s.switches) ∷ work; scope = length s.switches ∷ fiber.scope }) refl refl
-      (λ n _ _ _ i. inr (subst (In n) same i))
-      (λ m i. elim i [ inl e ↦ inr (free m e) | inr j ↦ inl (subst (In m) (sym same) j) ])
+    (λ n _ _ _ i. inr (subst (In n) same i))
+    (λ m i. elim i [ inl e ↦ inr (free m e) | inr j ↦ inl (subst (In m) (sym same) j) ])
   where
     free : (m : ℕ) → m ≡ length s.switches → IsFree s.fibers (length (s.switches ++ fresh ∷ [])) fiber.home m
     free m e = record {
@@ -200,13 +203,13 @@ wait_keeps g fiber others n work s h same k ks some =
 
 main_keeps : (g : ℕ) (fiber : Fiber) (others : List ℕ) (s : State) → IsTurn g fiber others s → marks fiber.work ≡ [] → fiber.home ≡ None → IsSound (after_main g fiber others s)
 main_keeps g fiber others s h none home = fiber_ends s.fibers s.ready s.switches g fiber h.sound h.stands (record fiber { work = []; ended = true }) others refl refl none refl
-  (λ m switch at i. let w = h.sound.attached m g switch at i in none-some m (sym home ∙ subst (λ z. z.home ≡ Some m) (same_Some w.fiber fiber (sym w.stands ∙ h.stands)) w.home))
-  (λ k i. subst (In k) (sym h.ready) (inr i))
-  (λ k i. subst (In k) h.ready i)
+    (λ m switch at i. let w = h.sound.attached m g switch at i in none-some m (sym home ∙ subst (λ z. z.home ≡ Some m) (same_Some w.fiber fiber (sym w.stands ∙ h.stands)) w.home))
+    (λ k i. subst (In k) (sym h.ready) (inr i))
+    (λ k i. subst (In k) h.ready i)
 
 -- a fiber that isn't attached at its home is attached nowhere
 nowhere : (fibers : List Fiber) (ready : List ℕ) (switches : List Switched) → Sound fibers ready switches → (g n : ℕ) (fiber : Fiber) (switch : Switched) → slice_get fibers g ≡ Some fiber → fiber.home ≡ Some n → slice_get switches n ≡ Some switch → (In g switch.attached → ⊥)
-  → (m : ℕ) (other : Switched) → slice_get switches m ≡ Some other → In g other.attached → ⊥
+    → (m : ℕ) (other : Switched) → slice_get switches m ≡ Some other → In g other.attached → ⊥
 nowhere fibers ready switches s g n fiber switch stands home at left m other a i =
     let w = s.attached m g other a i in
     let same : w.fiber ≡ fiber = same_Some w.fiber fiber (sym w.stands ∙ stands) in
@@ -226,9 +229,9 @@ end_keeps g fiber others n s h none home unless =
       placed = (λ k c. inr c);
     }) in
     fiber_ends s.fibers s.ready (slice_set s.switches n new) g fiber t h.stands (record fiber { work = []; ended = true }) others refl refl none refl
-      (nowhere s.fibers s.ready (slice_set s.switches n new) t g n fiber new h.stands home (written s.switches n old new at) (λ i. (In-without g g old.attached i).1 refl))
-      (λ k i. subst (In k) (sym h.ready) (inr i))
-      (λ k i. subst (In k) h.ready i)
+    (nowhere s.fibers s.ready (slice_set s.switches n new) t g n fiber new h.stands home (written s.switches n old new at) (λ i. (In-without g g old.attached i).1 refl))
+    (λ k i. subst (In k) (sym h.ready) (inr i))
+    (λ k i. subst (In k) h.ready i)
 
 wake_keeps : (g : ℕ) (fiber : Fiber) (others : List ℕ) (n closer : ℕ) (s : State) → IsTurn g fiber others s → marks fiber.work ≡ [] → fiber.home ≡ Some n → (switch_at s n).closer ≡ Some closer → IsSound (after_wake g fiber others n closer s)
 wake_keeps g fiber others n closer s h none home c =
@@ -247,9 +250,9 @@ wake_keeps g fiber others n closer s h none home c =
       placed = (λ k e. inl (subst (λ z. In z (s.ready ++ closer ∷ [])) (same_Some closer k (sym c ∙ e)) (In-append_last closer s.ready)));
     }) in
     fiber_ends s.fibers (s.ready ++ closer ∷ []) (slice_set s.switches n new) g fiber u h.stands (record fiber { work = []; ended = true }) (others ++ closer ∷ []) refl refl none refl
-      (nowhere s.fibers (s.ready ++ closer ∷ []) (slice_set s.switches n new) u g n fiber new h.stands home (written s.switches n old new at) (λ i. i))
-      (λ k i. subst (λ r. In k (r ++ closer ∷ [])) (sym h.ready) (inr i))
-      (λ k i. subst (λ r. In k (r ++ closer ∷ [])) h.ready i)
+    (nowhere s.fibers (s.ready ++ closer ∷ []) (slice_set s.switches n new) u g n fiber new h.stands home (written s.switches n old new at) (λ i. i))
+    (λ k i. subst (λ r. In k (r ++ closer ∷ [])) (sym h.ready) (inr i))
+    (λ k i. subst (λ r. In k (r ++ closer ∷ [])) h.ready i)
 
 pub call_keeps : (g : ℕ) (fiber : Fiber) (others : List ℕ) (ask : Ask) (work : List Work) (s : State) → IsTurn g fiber others s → marks fiber.work ≡ ask_marks ask (marks work) → s.live < 1024 → s.contexts < 4096 → IsSound (call g fiber others ask work s).next
 unfolding call

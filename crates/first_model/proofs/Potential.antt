@@ -1,11 +1,12 @@
--- A number that falls with each move, so that a run ends before a million moves and meets no limit:
--- what the fibers have still to do, two for each place in the ready list, and one for each fiber that waits in `close`.
--- A fiber that begins to wait gives up its place for it, and the end that wakes it gives up a place for its place.
-use Rattle.std.proofs.Common.{◌≡◌, ℕ, suc, ◌+◌, ◌-◌, ◌*◌, ◌≤◌, ◌<◌, Bool, true, false, List, [], ◌∷◌, ◌++◌, length, filter, not, ◌==◌, drop, slice_get, slice_set, slice_index, Option, Some, None, sum_by, refl, ap, sym, subst, arith, ltb, lt-ltb}
+-- A number that falls with each move, so that a run ends before a million moves and meets no limit: `call_falls`.
+--
+-- It is what the fibers have still to do, two for each place in the ready list, and one for each fiber that waits in `close`.
+-- A fiber that begins to wait gives up a place, and the end that wakes it gives up a place for the one that it gets again.
+use Rattle.std.proofs.Common.{◌≡◌, ℕ, ◌+◌, ◌*◌, ◌≤◌, ◌<◌, true, List, [], ◌∷◌, ◌++◌, length, drop, slice_get, slice_set, slice_index, Option, Some, None, sum_by, refl, ap, arith}
 use Rattle.std.proofs.lemmas.List.Sums.{sum_by-append}
-use Rattle.std.proofs.lemmas.List.{length-append, set_past}
+use Rattle.std.proofs.lemmas.List.{length-append}
 use Rattle.first_model.specs.Script.{Block}
-use Rattle.first_model.specs.Machine.{Work, Run, CloseMark, Fiber, Switched, State, Moved, Ask, AskSwitch, AskFork, AskTrace, AskYield, AskClose, AskEnd, call, working, opens_switch, forks, closes, ends, detached, with_switch, with_fiber, switch_at, most_fibers, most_contexts}
+use Rattle.first_model.specs.Machine.{Work, Run, CloseMark, Fiber, Switched, State, Ask, AskSwitch, AskFork, AskTrace, AskYield, AskClose, AskEnd, call, working, switch_at}
 use Rattle.first_model.proofs.Lookups.{sum_written, unwritten}
 use Rattle.first_model.proofs.Moves.{fresh, child, after_switch, after_fork, after_close, after_wait, after_main, staying, after_end, after_wake, switch_case, fork_cases, close_cases, end_cases}
 use Rattle.first_model.proofs.Works.{cost, work_cost, ask_cost}

@@ -2,13 +2,13 @@
 --
 -- The invariant: a fiber that hasn't ended is ready or waits in the `close` of a switch; a switch in whose `close` a fiber waits
 -- has somebody attached; who is attached hasn't ended; and a fiber closes only switches that were opened after the one it is attached to.
--- So from who waits one comes to an attached fiber that waits for a later switch, and so on: see `NotStuck`.
-use Rattle.std.proofs.Common.{◌≡◌, ℕ, zero, suc, ◌+◌, ◌≤◌, ◌<◌, ◌⊎◌, inl, inr, Bool, true, false, List, [], ◌∷◌, ◌++◌, length, slice_get, slice_set, Option, Some, None, refl, ap, sym, subst, ◌∙◌, arith, length-set, length-append}
+-- So from a fiber that waits one comes to an attached fiber that waits for a later switch, and so on: `NotStuck` ends that.
+use Rattle.std.proofs.Common.{◌≡◌, ℕ, ◌<◌, ◌⊎◌, inl, inr, false, List, [], ◌∷◌, ◌++◌, length, slice_get, slice_set, Option, Some, ap, sym, subst, ◌∙◌, arith, length-set, length-append}
 use Rattle.std.proofs.lemmas.Bool.{cases_eq}
-use Rattle.std.proofs.lemmas.Option.{slice_get_within, same_Some, none-some}
+use Rattle.std.proofs.lemmas.Option.{same_Some, none-some}
 use Rattle.first_model.specs.Script.{Block}
-use Rattle.first_model.specs.Machine.{Work, Run, Fiber, Switched}
-use Rattle.first_model.proofs.Lookups.{In, In-append_left, In-append_last, In-append_cases, written, kept, found, pushed_before, pushed_last, pushed_cases}
+use Rattle.first_model.specs.Machine.{Fiber, Switched}
+use Rattle.first_model.proofs.Lookups.{In, written, kept, found, pushed_before, pushed_cases}
 use Rattle.first_model.proofs.Works.{marks}
 use Rattle.first_model.proofs.Moves.{fresh, child}
 
@@ -134,9 +134,9 @@ module _ (fibers : List Fiber) (ready : List ℕ) (switches : List Switched) (g 
 
 -- the second: other fibers are ready, and who isn't any more waits or has ended
 pub ready_changes : (fibers : List Fiber) (ready others : List ℕ) (switches : List Switched) → Sound fibers ready switches
-  → ((k : ℕ) → In k others → k < length fibers)
-  → ((k : ℕ) (x : Fiber) → slice_get fibers k ≡ Some x → x.ended ≡ false → In k ready → In k others ⊎ Waits switches k)
-  → Sound fibers others switches
+    → ((k : ℕ) → In k others → k < length fibers)
+    → ((k : ℕ) (x : Fiber) → slice_get fibers k ≡ Some x → x.ended ≡ false → In k ready → In k others ⊎ Waits switches k)
+    → Sound fibers others switches
 ready_changes fibers ready others switches s queued placed = record {
   main = s.main;
   queued = queued;

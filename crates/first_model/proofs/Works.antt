@@ -1,6 +1,6 @@
--- What a fiber has still to do, counted: the switches that it will close, and the moves that it can cause.
--- The invariant of `next_call`: it takes what it answers from these, and skips only what counts nothing.
-use Rattle.std.proofs.Common.{◌≡◌, ℕ, ◌+◌, ◌*◌, ◌≤◌, List, [], ◌∷◌, refl, ap, arith}
+-- What a fiber has still to do, counted in two ways: the switches that it will close, and what its statements cost.
+-- The next call takes its part of both, and what `next_call` skips counts nothing: `next_call-marks` and `next_call-cost`.
+use Rattle.std.proofs.Common.{◌≡◌, ℕ, ◌+◌, ◌*◌, ◌≤◌, List, [], ◌∷◌, refl, arith}
 use Rattle.first_model.specs.Script.{Statement, Switch, Fork, Trace, Yield, Block, Done, Then, statements, inner_statements}
 use Rattle.first_model.specs.Machine.{Work, Run, CloseMark, Ask, AskSwitch, AskFork, AskTrace, AskYield, AskClose, AskEnd, next_call}
 
@@ -30,6 +30,7 @@ work_cost (CloseMark switch ∷ work) = 1 + work_cost work
 
 mutual
   unfolding statements inner_statements
+
   pub cost-statements : (block : Block) → cost block ≤ 3 * statements block
   cost-statements Done = omega arith
   cost-statements (Then s rest) = let here = statement_cost-statements s in let there = cost-statements rest in omega arith
