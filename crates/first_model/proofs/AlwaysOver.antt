@@ -58,7 +58,7 @@ unfolding move
 no_move s running e = ap (by_halted s) running ∙ ap (by_ready s) e
 
 falls : (s : State) (g : ℕ) (fiber : Fiber) (others : List ℕ) → IsGood s → IsTurn g fiber others s → Falls s (fiber_move g others fiber s).next
-falls s g fiber others good h = call_falls g fiber others (next_call fiber.work).ask (next_call fiber.work).work s (record { ready = h.ready; stands = h.stands; costs = next_call-cost fiber.work }) (let l = good.live in omega arith) (let c = good.contexts in omega arith)
+falls s g fiber others good h = call_falls g fiber others s (next_call fiber.work).ask (next_call fiber.work).work (record { ready = h.ready; stands = h.stands; costs = next_call-cost fiber.work }) (let l = good.live in omega arith) (let c = good.contexts in omega arith)
 
 stays_good : (s : State) (g : ℕ) (fiber : Fiber) (others : List ℕ) → IsGood s → IsTurn g fiber others s → IsGood (fiber_move g others fiber s).next
 stays_good s g fiber others good h =
@@ -67,7 +67,7 @@ stays_good s g fiber others good h =
     let c = good.contexts in
     record {
       running = f.halted ∙ good.running;
-      sound = call_keeps g fiber others (next_call fiber.work).ask (next_call fiber.work).work s h (next_call-marks fiber.work) (omega arith) (omega arith);
+      sound = call_keeps g fiber others s h (next_call fiber.work).ask (next_call fiber.work).work (next_call-marks fiber.work) (omega arith) (omega arith);
       live = omega arith;
       contexts = omega arith;
     }

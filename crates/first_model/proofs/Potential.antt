@@ -11,6 +11,7 @@ use Rattle.first_model.proofs.Lookups.{sum_written, unwritten}
 use Rattle.first_model.proofs.Moves.{fresh, child, after_switch, after_fork, after_close, after_wait, after_main, staying, after_end, after_wake, switch_case, fork_cases, close_cases, end_cases}
 use Rattle.first_model.proofs.Works.{cost, work_cost, ask_cost}
 
+-- what each fiber and each switch adds
 abbrev pub fiber_cost : Fiber → ℕ
 fiber_cost fiber = work_cost fiber.work
 
@@ -32,8 +33,8 @@ pub record Falls (s t : State) : Type 0 where
   pub contexts : t.contexts ≤ s.contexts + 1
   pub halted : t.halted ≡ s.halted
 
--- the fiber g, which stands before the others in the ready list, and what it costs beside its call
-pub record IsNext (g : ℕ) (fiber : Fiber) (others : List ℕ) (paid : ℕ) (work : List Work) (s : State) : Type 0 where
+-- the fiber g makes its call before the others in the ready list, and pays for it
+pub record Pays (g : ℕ) (fiber : Fiber) (others : List ℕ) (s : State) (paid : ℕ) (work : List Work) : Type 0 where
   pub ready : s.ready ≡ g ∷ others
   pub stands : slice_get s.fibers g ≡ Some fiber
   pub costs : fiber_cost fiber ≡ paid + work_cost work
@@ -46,78 +47,75 @@ switch_written s n switch = by (slice_get s.switches n) refl
     by None e = rw (unwritten s.switches n switch e) (omega arith)
     by (Some found) e = let w = sum_written waiting s.switches n found switch e in omega arith
 
-trace_falls : (g : ℕ) (fiber : Fiber) (others : List ℕ) (work : List Work) (s : State) → IsNext g fiber others 1 work s → Falls s (working g fiber work s)
-trace_falls g fiber others work s h =
-    let w = sum_written fiber_cost s.fibers g fiber (record fiber { work = work }) h.stands in
-    record { potential = omega arith; live = omega arith; contexts = omega arith; halted = refl }
+-- Each call, and each way that it can go, lowers the potential.
+module _ (g : ℕ) (fiber : Fiber) (others : List ℕ) (s : State) where
+  works_falls : (paid : ℕ) (work : List Work) → 1 ≤ paid → Pays g fiber others s paid work → Falls s (working g fiber work s)
+  works_falls paid work some h =
+      let w = sum_written fiber_cost s.fibers g fiber (record fiber { work = work }) h.stands in
+      record { potential = omega arith; live = omega arith; contexts = omega arith; halted = refl }
 
-yield_falls : (g : ℕ) (fiber : Fiber) (others : List ℕ) (work : List Work) (s : State) → IsNext g fiber others 1 work s → Falls s (let t : State = working g fiber work s in record t { ready = others ++ g ∷ [] })
-yield_falls g fiber others work s h =
-    let w = sum_written fiber_cost s.fibers g fiber (record fiber { work = work }) h.stands in
-    let l = ap length h.ready in
-    record { potential = omega (arith, length-append others (g ∷ [])); live = omega arith; contexts = omega arith; halted = refl }
+  yield_falls : (work : List Work) → Pays g fiber others s 1 work → Falls s (let t : State = working g fiber work s in record t { ready = others ++ g ∷ [] })
+  yield_falls work h =
+      let w = sum_written fiber_cost s.fibers g fiber (record fiber { work = work }) h.stands in
+      let l = ap length h.ready in
+      record { potential = omega (arith, length-append others (g ∷ [])); live = omega arith; contexts = omega arith; halted = refl }
 
-switch_falls : (g : ℕ) (fiber : Fiber) (others : List ℕ) (body : Block) (work : List Work) (s : State) → IsNext g fiber others (2 + cost body) work s → Falls s (after_switch g fiber body work s)
-switch_falls g fiber others body work s h =
-    let n = length s.switches in
-    let w = sum_written fiber_cost s.fibers g fiber (record fiber { work = Run body ∷ CloseMark n ∷ work; scope = n ∷ fiber.scope }) h.stands in
-    let p = sum_by-append waiting s.switches (fresh ∷ []) in
-    record { potential = omega arith; live = omega arith; contexts = omega arith; halted = refl }
+  switch_falls : (body : Block) (work : List Work) → Pays g fiber others s (2 + cost body) work → Falls s (after_switch g fiber others s body work)
+  switch_falls body work h =
+      let n = length s.switches in
+      let w = sum_written fiber_cost s.fibers g fiber (record fiber { work = Run body ∷ CloseMark n ∷ work; scope = n ∷ fiber.scope }) h.stands in
+      let p = sum_by-append waiting s.switches (fresh ∷ []) in
+      record { potential = omega arith; live = omega arith; contexts = omega arith; halted = refl }
 
-fork_falls : (g : ℕ) (fiber : Fiber) (others : List ℕ) (n : ℕ) (body : Block) (work : List Work) (s : State) → IsNext g fiber others (3 + cost body) work s → Falls s (after_fork g fiber others n body work s)
-fork_falls g fiber others n body work s h =
-    let fibers = slice_set s.fibers g (record fiber { work = work }) in
-    let w = sum_written fiber_cost s.fibers g fiber (record fiber { work = work }) h.stands in
-    let p = sum_by-append fiber_cost fibers (child n fiber.scope body ∷ []) in
-    let q = switch_written s n (record (switch_at s n) { attached = (switch_at s n).attached ++ length s.fibers ∷ [] }) in
-    let l = ap length h.ready in
-    record { potential = omega arith; live = omega arith; contexts = omega arith; halted = refl }
+  fork_falls : (n : ℕ) (body : Block) (work : List Work) → Pays g fiber others s (3 + cost body) work → Falls s (after_fork g fiber others s n body work)
+  fork_falls n body work h =
+      let own : Fiber = record fiber { work = work } in
+      let w = sum_written fiber_cost s.fibers g fiber own h.stands in
+      let p = sum_by-append fiber_cost (slice_set s.fibers g own) (child n fiber.scope body ∷ []) in
+      let q = switch_written s n (record (switch_at s n) { attached = (switch_at s n).attached ++ length s.fibers ∷ [] }) in
+      let l = ap length h.ready in
+      record { potential = omega arith; live = omega arith; contexts = omega arith; halted = refl }
 
-no_fork_falls : (g : ℕ) (fiber : Fiber) (others : List ℕ) (body : Block) (work : List Work) (s : State) → IsNext g fiber others (3 + cost body) work s → Falls s (working g fiber work s)
-no_fork_falls g fiber others body work s h =
-    let w = sum_written fiber_cost s.fibers g fiber (record fiber { work = work }) h.stands in
-    record { potential = omega arith; live = omega arith; contexts = omega arith; halted = refl }
+  close_falls : (n : ℕ) (work : List Work) → Pays g fiber others s 1 work → Falls s (after_close g fiber others s n work)
+  close_falls n work h =
+      let w = sum_written fiber_cost s.fibers g fiber (record fiber { work = work; scope = drop 1 fiber.scope }) h.stands in
+      let q = switch_written s n (record (switch_at s n) { finished = true }) in
+      record { potential = omega arith; live = omega arith; contexts = omega arith; halted = refl }
 
-close_falls : (g : ℕ) (fiber : Fiber) (others : List ℕ) (n : ℕ) (work : List Work) (s : State) → IsNext g fiber others 1 work s → Falls s (after_close g fiber n work s)
-close_falls g fiber others n work s h =
-    let w = sum_written fiber_cost s.fibers g fiber (record fiber { work = work; scope = drop 1 fiber.scope }) h.stands in
-    let q = switch_written s n (record (switch_at s n) { finished = true }) in
-    record { potential = omega arith; live = omega arith; contexts = omega arith; halted = refl }
+  wait_falls : (n : ℕ) (work : List Work) → Pays g fiber others s 1 work → Falls s (after_wait g fiber others s n work)
+  wait_falls n work h =
+      let w = sum_written fiber_cost s.fibers g fiber (record fiber { work = CloseMark n ∷ work }) h.stands in
+      let q = switch_written s n (record (switch_at s n) { closer = Some g }) in
+      let l = ap length h.ready in
+      record { potential = omega arith; live = omega arith; contexts = omega arith; halted = refl }
 
-wait_falls : (g : ℕ) (fiber : Fiber) (others : List ℕ) (n : ℕ) (work : List Work) (s : State) → IsNext g fiber others 1 work s → Falls s (after_wait g fiber others n work s)
-wait_falls g fiber others n work s h =
-    let w = sum_written fiber_cost s.fibers g fiber (record fiber { work = CloseMark n ∷ work }) h.stands in
-    let q = switch_written s n (record (switch_at s n) { closer = Some g }) in
-    let l = ap length h.ready in
-    record { potential = omega arith; live = omega arith; contexts = omega arith; halted = refl }
+  main_falls : (work : List Work) → Pays g fiber others s 0 work → Falls s (after_main g fiber others s)
+  main_falls work h =
+      let w = sum_written fiber_cost s.fibers g fiber (record fiber { work = []; ended = true }) h.stands in
+      let l = ap length h.ready in
+      record { potential = omega arith; live = omega arith; contexts = omega arith; halted = refl }
 
-main_falls : (g : ℕ) (fiber : Fiber) (others : List ℕ) (work : List Work) (s : State) → IsNext g fiber others 0 work s → Falls s (after_main g fiber others s)
-main_falls g fiber others work s h =
-    let w = sum_written fiber_cost s.fibers g fiber (record fiber { work = []; ended = true }) h.stands in
-    let l = ap length h.ready in
-    record { potential = omega arith; live = omega arith; contexts = omega arith; halted = refl }
+  end_falls : (n : ℕ) (work : List Work) → Pays g fiber others s 0 work → Falls s (after_end g fiber others s n)
+  end_falls n work h =
+      let w = sum_written fiber_cost s.fibers g fiber (record fiber { work = []; ended = true }) h.stands in
+      let q = switch_written s n (record (switch_at s n) { attached = staying g fiber others s n }) in
+      let l = ap length h.ready in
+      record { potential = omega arith; live = omega arith; contexts = omega arith; halted = refl }
 
-end_falls : (g : ℕ) (fiber : Fiber) (others : List ℕ) (n : ℕ) (work : List Work) (s : State) → IsNext g fiber others 0 work s → Falls s (after_end g fiber others n s)
-end_falls g fiber others n work s h =
-    let w = sum_written fiber_cost s.fibers g fiber (record fiber { work = []; ended = true }) h.stands in
-    let q = switch_written s n (record (switch_at s n) { attached = staying g n s }) in
-    let l = ap length h.ready in
-    record { potential = omega arith; live = omega arith; contexts = omega arith; halted = refl }
+  wake_falls : (n closer : ℕ) (work : List Work) → (switch_at s n).closer ≡ Some closer → Pays g fiber others s 0 work → Falls s (after_wake g fiber others s n closer)
+  wake_falls n closer work c h =
+      let w = sum_written fiber_cost s.fibers g fiber (record fiber { work = []; ended = true }) h.stands in
+      let q = switch_written s n (record (switch_at s n) { attached = []; closer = None }) in
+      let one : waiting (switch_at s n) ≡ 1 = ap waits c in
+      let l = ap length h.ready in
+      record { potential = omega (arith, length-append others (closer ∷ [])); live = omega arith; contexts = omega arith; halted = refl }
 
-wake_falls : (g : ℕ) (fiber : Fiber) (others : List ℕ) (n closer : ℕ) (work : List Work) (s : State) → (switch_at s n).closer ≡ Some closer → IsNext g fiber others 0 work s → Falls s (after_wake g fiber others n closer s)
-wake_falls g fiber others n closer work s c h =
-    let w = sum_written fiber_cost s.fibers g fiber (record fiber { work = []; ended = true }) h.stands in
-    let q = switch_written s n (record (switch_at s n) { attached = []; closer = None }) in
-    let one : waiting (switch_at s n) ≡ 1 = ap waits c in
-    let l = ap length h.ready in
-    record { potential = omega (arith, length-append others (closer ∷ [])); live = omega arith; contexts = omega arith; halted = refl }
-
--- each move lowers the potential, where no limit is met
-pub call_falls : (g : ℕ) (fiber : Fiber) (others : List ℕ) (ask : Ask) (work : List Work) (s : State) → IsNext g fiber others (ask_cost ask) work s → s.live < 1024 → s.contexts < 4096 → Falls s (call g fiber others ask work s).next
-unfolding call
-call_falls g fiber others (AskTrace text) work s h live contexts = trace_falls g fiber others work s h
-call_falls g fiber others AskYield work s h live contexts = yield_falls g fiber others work s h
-call_falls g fiber others (AskSwitch body) work s h live contexts = switch_case (Falls s) g fiber body work s contexts (switch_falls g fiber others body work s h)
-call_falls g fiber others (AskFork place body) work s h live contexts = fork_cases (Falls s) g fiber others place body work s live (no_fork_falls g fiber others body work s h) (λ _. fork_falls g fiber others (slice_index fiber.scope place) body work s h)
-call_falls g fiber others (AskClose n) work s h live contexts = close_cases (Falls s) g fiber others n work s (λ _. close_falls g fiber others n work s h) (λ _ _ _. wait_falls g fiber others n work s h)
-call_falls g fiber others AskEnd work s h live contexts = end_cases (Falls s) g fiber others s (λ _. main_falls g fiber others work s h) (λ n _ _. end_falls g fiber others n work s h) (λ n closer _ _ c. wake_falls g fiber others n closer work s c h)
+  -- each move lowers the potential, where no limit is met
+  pub call_falls : (ask : Ask) (work : List Work) → Pays g fiber others s (ask_cost ask) work → s.live < 1024 → s.contexts < 4096 → Falls s (call g fiber others ask work s).next
+  unfolding call
+  call_falls (AskTrace text) work h live contexts = works_falls 1 work (omega arith) h
+  call_falls AskYield work h live contexts = yield_falls work h
+  call_falls (AskSwitch body) work h live contexts = switch_case g fiber others s (Falls s) body work contexts (switch_falls body work h)
+  call_falls (AskFork place body) work h live contexts = fork_cases g fiber others s (Falls s) place body work live (works_falls (3 + cost body) work (omega arith) h) (λ _. fork_falls (slice_index fiber.scope place) body work h)
+  call_falls (AskClose n) work h live contexts = close_cases g fiber others s (Falls s) n work (λ _. close_falls n work h) (λ _ _ _. wait_falls n work h)
+  call_falls AskEnd work h live contexts = end_cases g fiber others s (Falls s) (λ _. main_falls work h) (λ n _ _. end_falls n work h) (λ n closer _ c. wake_falls n closer work c h)

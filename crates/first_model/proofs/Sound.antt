@@ -38,22 +38,30 @@ pub record IsInhabited (xs : List ℕ) : Type 0 where
   pub stands : In member xs
 
 pub record Sound (fibers : List Fiber) (ready : List ℕ) (switches : List Switched) : Type 0 where
+  -- there is a main, and who is ready is there
   pub main : 0 < length fibers
   pub queued : (g : ℕ) → In g ready → g < length fibers
+  -- who hasn't ended is ready or waits
   pub placed : (g : ℕ) (f : Fiber) → slice_get fibers g ≡ Some f → f.ended ≡ false → In g ready ⊎ Waits switches g
+  -- where a fiber waits somebody is attached, and it is the one that closes
   pub awaited : (n g : ℕ) (switch : Switched) → slice_get switches n ≡ Some switch → switch.closer ≡ Some g → IsInhabited switch.attached × Closes fibers g n
+  -- who is attached hasn't ended, and is attached to its home
   pub attached : (n h : ℕ) (switch : Switched) → slice_get switches n ≡ Some switch → In h switch.attached → IsMember fibers h n
   pub homes : (g n : ℕ) (f : Fiber) → slice_get fibers g ≡ Some f → f.home ≡ Some n → n < length switches
+  -- a fiber closes switches that are there, later ones than its home
   pub later : (g n m : ℕ) (f : Fiber) → slice_get fibers g ≡ Some f → f.home ≡ Some n → In m (marks f.work) → n < m
   pub marked : (g m : ℕ) (f : Fiber) → slice_get fibers g ≡ Some f → In m (marks f.work) → m < length switches
+  -- and each switch is closed by one fiber
   pub one : (g k m : ℕ) (f e : Fiber) → slice_get fibers g ≡ Some f → slice_get fibers k ≡ Some e → In m (marks f.work) → In m (marks e.work) → g ≡ k
 
--- the first change: the fiber g does something else, or ends. It may close switches that nobody closes
+-- The first change: the fiber g does something else, or ends. It may close switches that nobody closes.
+-- A switch that it may begin to close, where so many are there:
 pub record IsFree (fibers : List Fiber) (count : ℕ) (home : Option ℕ) (m : ℕ) : Type 0 where
   pub below : m < count
   pub after_home : (n : ℕ) → home ≡ Some n → n < m
   pub unmarked : (k : ℕ) (e : Fiber) → slice_get fibers k ≡ Some e → In m (marks e.work) → ⊥
 
+-- that the fiber f, which stands at g, may become e
 pub record MayBecome (fibers : List Fiber) (switches : List Switched) (g : ℕ) (f e : Fiber) : Type 0 where
   pub stands : slice_get fibers g ≡ Some f
   pub home : e.home ≡ f.home
@@ -132,7 +140,7 @@ module _ (fibers : List Fiber) (ready : List ℕ) (switches : List Switched) (g 
     one = one_then;
   }
 
--- the second: other fibers are ready, and who isn't any more waits or has ended
+-- The second: other fibers are ready, and who isn't any more waits or has ended
 pub ready_changes : (fibers : List Fiber) (ready others : List ℕ) (switches : List Switched) → Sound fibers ready switches
     → ((k : ℕ) → In k others → k < length fibers)
     → ((k : ℕ) (x : Fiber) → slice_get fibers k ≡ Some x → x.ended ≡ false → In k ready → In k others ⊎ Waits switches k)
@@ -149,7 +157,7 @@ ready_changes fibers ready others switches s queued placed = record {
   one = s.one;
 }
 
--- the third: other fibers are attached to a switch, or wait for it
+-- The third: other fibers are attached to a switch, or wait for it
 pub record MayHave (fibers : List Fiber) (ready : List ℕ) (switches : List Switched) (n : ℕ) (old new : Switched) : Type 0 where
   pub stands : slice_get switches n ≡ Some old
   pub attached : (h : ℕ) → In h new.attached → IsMember fibers h n
@@ -192,7 +200,7 @@ module _ (fibers : List Fiber) (ready : List ℕ) (switches : List Switched) (n 
     one = s.one;
   }
 
--- the fourth: a switch is opened
+-- The fourth: a switch is opened
 pub switch_opens : (fibers : List Fiber) (ready : List ℕ) (switches : List Switched) → Sound fibers ready switches → Sound fibers ready (switches ++ fresh ∷ [])
 switch_opens fibers ready switches s = record {
   main = s.main;
@@ -215,7 +223,7 @@ switch_opens fibers ready switches s = record {
   one = s.one;
 }
 
--- the fifth: a fiber begins
+-- The fifth: a fiber begins
 module _ (fibers : List Fiber) (ready : List ℕ) (switches : List Switched) (h n : ℕ) (scope : List ℕ) (body : Block) (s : Sound fibers ready switches) (last : h ≡ length fibers) (below : n < length switches) where
   began : Fiber
   began = child n scope body
