@@ -1,6 +1,6 @@
 -- What the command `mock` does to its source and its sink, by the status that it answers.
 -- Where a source tells the bytes left, or a sink the bytes held, these say which were read and written.
-use Rattle.std.specs.Prelude.{◌≡◌, ℕ, ◌≤◌, List, [], drop, Some, None}
+use Rattle.std.specs.Prelude.{◌≡◌, ℕ, ◌≤◌, List, drop, Some, None}
 use Rattle.std.specs.declared.option.Option.{Option}
 use Rattle.std.specs.Io.KnownBytes.{Keeps, Appends}
 use Rattle.trace_out.specs.Causes.{Rose, AppendsFront}
