@@ -11,7 +11,8 @@ use eio_value::NoMemory;
 use std::alloc::Global;
 use std::marker::Model;
 
-/// A sink in memory.
+/// A sink in memory. A write takes the least of `most`, the piece and the room that is left; it fails
+/// where its number stands in `failing`, where `most` is 0 and where no room is left.
 #[derive(Drop)]
 pub struct MemSink {
     bytes: Vec<u8>,
@@ -35,8 +36,7 @@ impl Model for MemSink {
 }
 
 impl MemSink {
-    /// An empty sink with this room, in bytes. A write takes at most `most` bytes, and fails where its
-    /// number, counted from 1, is among `failing`.
+    /// An empty sink, for which it reserves `room` bytes. The numbers in `failing` count writes from 1.
     pub fn new(
         alloc: Global,
         room: usize,

@@ -15,6 +15,9 @@ pub trait Sink {
     ghost faults: { Self → ℕ };
 
     /// Takes a front of `piece`, at least one byte, and returns how many.
+    ///
+    /// `Failed` comes only where the count of faults rose, and nothing is appended then. A sink that can
+    /// take nothing answers it.
     fn write(&mut self, piece: &[u8]) -> Result<usize, Failed>
         requires { 0 < length piece.now }
         ensures some { IfOk result (λ n. 0 < n) }
