@@ -1,10 +1,10 @@
 //! A sink in memory, which fails at the calls that it is told to and where its room is used up.
 //!
 //! Its bytes never outgrow the room that `new` reserved, so a write takes no memory.
-ghost use Rattle.std.specs.Prelude.{◌≡◌, ℕ, ◌+◌, ◌<◌, ◌≤◌, List, [], ◌++◌, length, take, Some, IfOk, OnOk, OnErr, is_err};
-ghost use Rattle.std.specs.Io.KnownBytes.{WriteAppends, Keeps};
+ghost use Rattle.std.specs.Prelude.{◌≡◌, ◌+◌, ◌<◌, ◌≤◌, [], ◌++◌, length, take, Some, IfOk, OnErr, is_err};
+ghost use Rattle.std.specs.Io.KnownBytes.{WriteAppends};
 ghost use Rattle.trace_out.specs.Causes.{HasCause};
-ghost use Rattle.trace_out.specs.Devices.{next_count, write_fails, write_count, is_refused, is_among};
+ghost use Rattle.trace_out.specs.Devices.{next_count, write_fails, write_count, is_refused};
 
 use crate::{Failed, Sink};
 use eio_value::NoMemory;

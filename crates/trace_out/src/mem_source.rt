@@ -1,7 +1,7 @@
 //! A source in memory, which fails at the calls that it is told to.
-ghost use Rattle.std.specs.Prelude.{◌≡◌, ℕ, ◌<◌, ◌≤◌, ◌↔◌, min, List, [], length, take, drop, Some, IfOk, OnOk, OnErr, IfSome, is_err};
+ghost use Rattle.std.specs.Prelude.{◌≡◌, ◌<◌, ◌≤◌, ◌↔◌, min, [], length, take, drop, Some, IfOk, OnOk, OnErr, is_err};
 ghost use Rattle.std.specs.Io.{ReadsAtMost};
-ghost use Rattle.std.specs.Io.KnownBytes.{ReadConsumes, Keeps};
+ghost use Rattle.std.specs.Io.KnownBytes.{ReadConsumes};
 ghost use Rattle.trace_out.specs.Causes.{HasCause};
 ghost use Rattle.trace_out.specs.Devices.{next_count, is_among};
 
@@ -43,7 +43,6 @@ impl Source for MemSource {
         ensures count { IfOk result (λ n. n ≡ min self.old.most (min (length buf.old) (length self.old.left.items))) }
         ensures given { IfOk result (λ n. take n buf.new ≡ take n self.old.left.items) }
         ensures left { IfOk result (λ n. self.new.left.items ≡ drop n self.old.left.items) }
-
         ensures rest { IfOk result (λ n. drop n buf.new ≡ drop n buf.old) }
         ensures untouched { OnErr result (buf.new ≡ buf.old) }
 
