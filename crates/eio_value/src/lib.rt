@@ -21,3 +21,25 @@ impl<T: Drop> From<AllocFailed<T>> for NoMemory {
         NoMemory
     }
 }
+
+#[cfg(test)]
+mod tests {
+    use super::*;
+    use std::alloc::Global;
+    use std::test::Fail;
+
+    /// An allocation that gives the value back, and one that doesn't.
+    fn doubled(alloc: Global, x: u8) -> Result<Vec<u8>, NoMemory> {
+        let mut twice = Vec::with_capacity(alloc, 1)?;
+        twice.push(x)?;
+        twice.push(x)?;
+        Ok(twice)
+    }
+
+    #[test]
+    fn an_allocation_error_converts(rt: HostRuntime) -> Result<(), Fail> {
+        let twice = doubled(rt.alloc(), 7)?;
+        assert_eq!(rt; twice.as_slice(), [7, 7].as_slice());
+        Ok(())
+    }
+}

@@ -1,5 +1,5 @@
 -- Sources and sinks in memory, which number their calls and fail at those that they are told to.
-use Rattle.std.specs.Prelude.{◌≡◌, ℕ, ◌+◌, ◌-◌, ◌^◌, min, List, length, Bool, ◌||◌, ◌==◌, nat_eq, nat_le}
+use Rattle.std.specs.Prelude.{ℕ, ◌+◌, ◌-◌, ◌^◌, min, List, length, Bool, ◌||◌, ◌==◌, nat_eq, nat_le}
 use Rattle.std.specs.List.{list_any}
 
 -- a count after one more, which stays at the greatest number of a u64

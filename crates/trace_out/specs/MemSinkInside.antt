@@ -1,5 +1,5 @@
 -- How a sink in memory is kept.
-use Rattle.std.specs.Prelude.{ℕ, ◌≤◌, vec_len, vec_capacity}
+use Rattle.std.specs.Prelude.{◌≤◌, vec_len, vec_capacity}
 use Rattle.trace_out.specs.Devices.{Memory}
 use Rattle.trace_out.specs.declared.mem_sink.MemSink.TheInside.{Inside}
 

@@ -3,10 +3,11 @@ use std::sync::Wait;
 
 /// What a worker asks before each turn and while it holds an object. It promises nothing.
 pub trait Gate: Sync {
-    /// Asked before a turn of a domain, with the turn's number, counted from 1.
+    /// Asked before each turn of a domain, idle ones too. `turn` counts from 1, and stays at the greatest
+    /// number once it is there.
     fn before<R: Wait + Sync>(&self, rt: &R, domain: u8, turn: u32);
 
-    /// Asked while a domain holds an object.
+    /// Asked while a domain holds the turn of an object, before it calls the object's core.
     fn inside<R: Wait + Sync>(&self, rt: &R, domain: u8, object: u32);
 }
 

@@ -1,17 +1,18 @@
 //! A sink in memory, which fails at the calls that it is told to and where its room is used up.
 //!
 //! Its bytes never outgrow the room that `new` reserved, so a write takes no memory.
-ghost use Rattle.std.specs.Prelude.{◌≡◌, ℕ, ◌+◌, ◌<◌, ◌≤◌, List, [], ◌++◌, length, take, Some, IfOk, OnOk, OnErr, is_err};
-ghost use Rattle.std.specs.Io.KnownBytes.{WriteAppends, Keeps};
+ghost use Rattle.std.specs.Prelude.{◌≡◌, ◌+◌, ◌<◌, ◌≤◌, [], ◌++◌, length, take, Some, IfOk, OnErr, is_err};
+ghost use Rattle.std.specs.Io.KnownBytes.{WriteAppends};
 ghost use Rattle.trace_out.specs.Causes.{HasCause};
-ghost use Rattle.trace_out.specs.Devices.{next_count, write_fails, write_count, is_refused, is_among};
+ghost use Rattle.trace_out.specs.Devices.{next_count, write_fails, write_count, is_refused};
 
 use crate::{Failed, Sink};
 use eio_value::NoMemory;
 use std::alloc::Global;
 use std::marker::Model;
 
-/// A sink in memory.
+/// A sink in memory. A write takes the least of `most`, the piece and the room that is left; it fails
+/// where its number stands in `failing`, where `most` is 0 and where no room is left.
 #[derive(Drop)]
 pub struct MemSink {
     bytes: Vec<u8>,
@@ -35,8 +36,7 @@ impl Model for MemSink {
 }
 
 impl MemSink {
-    /// An empty sink with this room, in bytes. A write takes at most `most` bytes, and fails where its
-    /// number, counted from 1, is among `failing`.
+    /// An empty sink, for which it reserves `room` bytes. The numbers in `failing` count writes from 1.
     pub fn new(
         alloc: Global,
         room: usize,

@@ -1,13 +1,14 @@
 //! A source in memory, which fails at the calls that it is told to.
-ghost use Rattle.std.specs.Prelude.{◌≡◌, ℕ, ◌<◌, ◌≤◌, ◌↔◌, min, List, [], length, take, drop, Some, IfOk, OnOk, OnErr, IfSome, is_err};
+ghost use Rattle.std.specs.Prelude.{◌≡◌, ◌<◌, ◌≤◌, ◌↔◌, min, [], length, take, drop, Some, IfOk, OnOk, OnErr, is_err};
 ghost use Rattle.std.specs.Io.{ReadsAtMost};
-ghost use Rattle.std.specs.Io.KnownBytes.{ReadConsumes, Keeps};
+ghost use Rattle.std.specs.Io.KnownBytes.{ReadConsumes};
 ghost use Rattle.trace_out.specs.Causes.{HasCause};
 ghost use Rattle.trace_out.specs.Devices.{next_count, is_among};
 
 use crate::{Failed, Source};
 
-/// A source in memory.
+/// A source in memory. A read gives the least of `most`, the room in the buffer and what is left; it
+/// fails where its number stands in `failing`. It takes no memory.
 #[derive(Drop)]
 pub struct MemSource {
     /// The bytes that are left.
@@ -42,6 +43,8 @@ impl Source for MemSource {
         ensures count { IfOk result (λ n. n ≡ min self.old.most (min (length buf.old) (length self.old.left.items))) }
         ensures given { IfOk result (λ n. take n buf.new ≡ take n self.old.left.items) }
         ensures left { IfOk result (λ n. self.new.left.items ≡ drop n self.old.left.items) }
+        ensures rest { IfOk result (λ n. drop n buf.new ≡ drop n buf.old) }
+        ensures untouched { OnErr result (buf.new ≡ buf.old) }
 
         // The counts, and what stays.
         ensures calls { self.new.calls ≡ next_count self.old.calls }

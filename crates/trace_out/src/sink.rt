@@ -1,5 +1,5 @@
 //! Where a run writes its trace to.
-ghost use Rattle.std.specs.Prelude.{◌≡◌, ℕ, ◌<◌, ◌≤◌, List, length, IfOk, OnErr};
+ghost use Rattle.std.specs.Prelude.{ℕ, ◌<◌, ◌≤◌, List, length, IfOk, OnErr};
 ghost use Rattle.std.specs.declared.option.Option.{Option};
 ghost use Rattle.std.specs.Io.KnownBytes.{WriteAppends, Keeps};
 ghost use Rattle.trace_out.specs.Causes.{HasCause};
@@ -15,6 +15,9 @@ pub trait Sink {
     ghost faults: { Self → ℕ };
 
     /// Takes a front of `piece`, at least one byte, and returns how many.
+    ///
+    /// `Failed` comes only where the count of faults rose, and nothing is appended then. A sink that can
+    /// take nothing answers it.
     fn write(&mut self, piece: &[u8]) -> Result<usize, Failed>
         requires { 0 < length piece.now }
         ensures some { IfOk result (λ n. 0 < n) }

@@ -8,8 +8,6 @@ ghost use Rattle.trace_out.specs.Causes.{HasCause};
 use crate::Failed;
 
 /// Where bytes come from.
-///
-/// `Ok(0)` is the end of the input. After a `Failed` the source may be read on.
 pub trait Source {
     /// The bytes that are left, where they are told.
     ghost left: { Self → Option (List ℕ) };
@@ -17,7 +15,10 @@ pub trait Source {
     /// How many faults the source has had. It never falls.
     ghost faults: { Self → ℕ };
 
-    /// Reads the next bytes to the front of `buf`, and returns how many.
+    /// Reads the next bytes to the front of `buf`, and returns how many. `Ok(0)` is the end of the input.
+    ///
+    /// `Failed` comes only where the count of faults rose. No byte is lost then, so the source may be
+    /// read on.
     fn read(&mut self, buf: &mut [u8]) -> Result<usize, Failed>
         requires { 0 < length buf.old }
         ensures within { ReadsAtMost result buf.new }

@@ -2,7 +2,7 @@
 //!
 //! The loop keeps: what was written so far is the front `bytes[..at]`, and the count of faults has not
 //! fallen. `write_all` says what the sink holds after either answer.
-ghost use Rattle.std.specs.Prelude.{◌≡◌, ℕ, ◌+◌, ◌<◌, ◌≤◌, List, length, OnOk, OnErr};
+ghost use Rattle.std.specs.Prelude.{◌+◌, ◌<◌, OnOk, OnErr};
 ghost use Rattle.std.specs.Io.KnownBytes.{Appends};
 ghost use Rattle.trace_out.specs.Causes.{HasCause, AppendsFront};
 

@@ -1,4 +1,4 @@
-use Rattle.std.proofs.Common.{rules, arith}
+use Rattle.std.proofs.Common.{rules}
 use Rattle.trace_out.proofs.Appended.{appends_slice}
 use Rattle.trace_out.proofs.writing.write_all.Goals as goal
 
