@@ -1,5 +1,5 @@
 -- The calls of kept fibers.
-use Rattle.std.specs.Prelude.{◌≡◌, ℕ, List, [], ◌∷◌, ◌++◌, map, take, Option, Some, None}
+use Rattle.std.specs.Prelude.{◌≡◌, ℕ, List, [], ◌∷◌, ◌++◌, map, take, length, ◌-◌, Option, Some, None}
 use Rattle.first_model.specs.Machine as model
 use Rattle.first_model.specs.Machine.{Ask, Next, next_call}
 use Rattle.script_lang.specs.Pieces.{Piece, block_at}
@@ -9,7 +9,7 @@ use Rattle.mock_backend.specs.declared.fiber.Call.{Call}
 use Rattle.mock_backend.specs.declared.fiber.Call.TheVariants as call
 use Rattle.mock_backend.specs.declared.fiber.Rest.{Rest}
 use Rattle.mock_backend.specs.declared.fiber.Next.{Next as NextCall}
-use Rattle.mock_backend.specs.Kept.{work_of, works}
+use Rattle.mock_backend.specs.Kept.{KeptFiber, work_of, works}
 
 -- the rest of a block, if there is one
 abbrev pub rest_of_block : Option ℕ → List Work
@@ -36,3 +36,15 @@ IsCall pieces item (Some made) = (behind : List model.Work) → next_call (work_
 -- the next call of a fiber with this work
 abbrev pub next_of : List Piece → List Work → NextCall → Next
 next_of pieces items next = record { ask = ask_of pieces next.call; work = works pieces (left_of next.rest items) }
+
+-- a fiber past a call, in the block of a new switch
+abbrev pub entering : (switch body : ℕ) → Rest → KeptFiber → KeptFiber
+entering switch body rest fiber = record fiber { work = left_of rest fiber.work ++ work.Close switch ∷ [] ++ work.Run body ∷ []; scope = fiber.scope ++ switch ∷ [] }
+
+-- a fiber that stays at the end of a switch
+abbrev pub waiting : (switch : ℕ) → Rest → KeptFiber → KeptFiber
+waiting switch rest fiber = record fiber { work = left_of rest fiber.work ++ work.Close switch ∷ [] }
+
+-- a fiber past the end of its innermost switch
+abbrev pub leaving : Rest → KeptFiber → KeptFiber
+leaving rest fiber = record fiber { work = left_of rest fiber.work; scope = take (length fiber.scope - 1) fiber.scope }

@@ -6,7 +6,7 @@
 ghost use Rattle.std.specs.Prelude.{◌≡◌, [], ◌∷◌, ◌++◌, OnOk, IfOk, Some, None, true, false, slice_index, reverse};
 ghost use Rattle.first_model.specs.Machine.{next_call};
 ghost use Rattle.mock_backend.specs.Kept.{fiber_for, works};
-ghost use Rattle.mock_backend.specs.Calls.{IsCall, next_of, left_of};
+ghost use Rattle.mock_backend.specs.Calls.{IsCall, next_of, left_of, entering, waiting, leaving};
 
 use script_lang::small::{Script, Statement};
 use std::alloc::{AllocError, Global};
@@ -124,7 +124,7 @@ impl Fiber {
         }
     }
 
-    /// Leaves a call behind.
+    /// Goes past a call.
     pub(crate) fn go_on(&mut self, rest: Rest) -> Result<(), AllocError>
         ensures { OnOk result (self.new ≡ record self.old { work = left_of rest self.old.work }) }
     {
@@ -135,15 +135,68 @@ impl Fiber {
         Ok(())
     }
 
-    /// Goes into the block of a switch.
-    pub(crate) fn enter(&mut self, switch: usize, body: u32) -> Result<(), AllocError>
-        ensures { OnOk result (self.new ≡ record self.old {
-            work = self.old.work ++ Work.Close switch ∷ Work.Run body ∷ [];
-            scope = self.old.scope ++ switch ∷ [] }) }
+    /// Goes past a call into the block of a new switch.
+    pub(crate) fn enter(&mut self, switch: usize, body: u32, rest: Rest) -> Result<(), AllocError>
+        ensures { OnOk result (self.new ≡ entering switch body rest self.old) }
     {
+        self.go_on(rest)?;
         self.work.push(Work::Close(switch))?;
         self.work.push(Work::Run(body))?;
         self.scope.push(switch)?;
         Ok(())
+    }
+
+    /// Stays at the end of a switch.
+    pub(crate) fn wait(&mut self, switch: usize, rest: Rest) -> Result<(), AllocError>
+        ensures { OnOk result (self.new ≡ waiting switch rest self.old) }
+    {
+        self.go_on(rest)?;
+        self.work.push(Work::Close(switch))?;
+        Ok(())
+    }
+
+    /// Goes past the end of a switch: the name of the innermost one goes out of scope.
+    pub(crate) fn leave(&mut self, rest: Rest) -> Result<(), AllocError>
+        ensures { OnOk result (self.new ≡ leaving rest self.old) }
+    {
+        self.scope.pop();
+        self.go_on(rest)
+    }
+
+    /// Ends, and gives the switch that the fiber was attached to.
+    pub(crate) fn end(&mut self) -> Option<usize>
+        ensures ended { self.new ≡ record self.old { work = []; ended = true } }
+        ensures home { result ≡ self.old.home }
+    {
+        self.work.clear();
+        self.ended = true;
+        self.home
+    }
+
+    pub(crate) fn has_ended(&self) -> bool
+        ensures { result ≡ self.now.ended }
+    {
+        self.ended
+    }
+
+    /// The switch at a place among those in scope, the innermost at 0.
+    /// Past them it is the number 0, as in the definition; no script names such a place.
+    pub(crate) fn switch_at(&self, place: u32) -> usize
+        ensures { result ≡ slice_index (reverse self.now.scope) place }
+    {
+        let depth = place as usize;
+        if depth < self.scope.len() {
+            self.scope[self.scope.len() - 1 - depth]
+        } else {
+            0
+        }
+    }
+
+    /// A new fiber on a switch, with this one's scope.
+    pub(crate) fn fork(&self, alloc: Global, body: u32, switch: usize) -> Result<Fiber, AllocError>
+        ensures { IfOk result (λ fiber. fiber ≡ fiber_for body self.now.scope (Some switch)) }
+    {
+        let scope = Vec::from_slice(alloc, &self.scope)?;
+        Fiber::start(alloc, body, scope, Some(switch))
     }
 }
