@@ -1,3 +1,5 @@
 pub mod Calls
 pub mod NextCall
 pub mod Detaching
+pub mod Callers
+pub mod CallsMove

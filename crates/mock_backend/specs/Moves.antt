@@ -25,8 +25,8 @@ call_of pieces fiber made rest kept =
     call fiber (fiber_of pieces (fiber_at kept fiber)) (drop 1 kept.ready) (ask_of pieces made) (works pieces (left_of rest (fiber_at kept fiber).work)) (state_of pieces kept)
 
 -- by this call, and with this work behind it, the fiber moves from one state to the other and writes nothing, under every script
-abbrev pub MovesQuietly : (fiber : ℕ) → Call → Rest → (old new : Kept) → Type 0
-MovesQuietly fiber made rest old new = (pieces : List Piece) → call_of pieces fiber made rest old ≡ quietly (state_of pieces new)
+pub record MovesQuietly (fiber : ℕ) (made : Call) (rest : Rest) (old new : Kept) : Type 0 where
+  pub moves : (pieces : List Piece) → call_of pieces fiber made rest old ≡ quietly (state_of pieces new)
 
 -- a step under a script: no move is possible, or it is the next move
 abbrev pub Steps : List Piece → (old new : Kept) → Step → Type 0
