@@ -1,5 +1,5 @@
 -- The fiber at the head of the ready list and its call, as the code reads them from the machine.
-use Rattle.std.proofs.Common.{◌≡◌, ℕ, ◌<◌, List, [], ◌∷◌, take, drop, length, get_or, None, true, ap, sym, ◌∙◌, subst}
+use Rattle.std.proofs.Common.{◌≡◌, ℕ, ◌<◌, List, [], ◌∷◌, take, drop, length, get_or, None, Bool, true, ap, sym, ◌∙◌, subst}
 use Rattle.std.proofs.lemmas.List.{get_or_read}
 use Rattle.first_model.specs.Machine.{call, quietly}
 use Rattle.script_lang.specs.Pieces.{Piece}
@@ -7,7 +7,7 @@ use Rattle.mock_backend.specs.declared.fiber.Call.{Call}
 use Rattle.mock_backend.specs.declared.fiber.Rest.{Rest}
 use Rattle.mock_backend.specs.Kept.{KeptFiber, Kept, works, fiber_of, state_of}
 use Rattle.mock_backend.specs.Calls.{ask_of, left_of}
-use Rattle.mock_backend.specs.Moves.{IsHead, MovesQuietly, fiber_at, call_of}
+use Rattle.mock_backend.specs.Moves.{IsHead, MovesQuietly, fiber_at, call_of, switch_among}
 
 -- kept is the machine's old value, with its fields in sight, and f the fiber that was read from it
 pub record Caller (g : ℕ) (kept old : Kept) (f : KeptFiber) : Type 0 where
@@ -41,3 +41,14 @@ pub by_any : {g : ℕ} {made : Call} {rest : Rest} {kept old new : Kept} → kep
 by_any {g} {made} {rest} {kept} {old} {new} same calls =
     let P : Kept → Type 0 = λ k. MovesQuietly g made rest k new in
     subst P same (record { moves = λ pieces. (calls (fiber_at kept g)).calls pieces })
+
+-- two readings of one fiber
+pub same_fiber : {g : ℕ} {kept old : Kept} {f f' : KeptFiber} → Caller g kept old f → Caller g kept old f' → f ≡ f'
+same_fiber c d = sym (fiber_read c) ∙ fiber_read d
+
+-- what was found of a switch, with the machine's fields in sight
+pub finished_read : {kept old : Kept} (switch : ℕ) {finished : Bool} → kept ≡ old → finished ≡ (switch_among old.switches switch).finished → (switch_among kept.switches switch).finished ≡ finished
+finished_read switch same is = ap (λ (k : Kept). (switch_among k.switches switch).finished) same ∙ sym is
+
+pub switch_within : {kept old : Kept} (switch : ℕ) → kept ≡ old → switch < length old.switches → switch < length kept.switches
+switch_within {kept} {old} switch same within = let P : Kept → Type 0 = λ k. switch < length k.switches in subst P (sym same) within

@@ -170,7 +170,8 @@ impl Machine {
         requires { IsHead fiber self.old }
         ensures { OnOk result (MovesQuietly fiber (Call.Fork place body) rest self.old self.new) }
     {
-        let switch = self.fibers[fiber].switch_at(place);
+        let forker = &self.fibers[fiber];
+        let switch = forker.switch_at(place);
         if self.is_finished(switch) {
             return self.fibers[fiber].go_on(rest);
         }
@@ -179,10 +180,10 @@ impl Machine {
             return Ok(());
         }
         let number = self.fibers.len();
-        self.switches[switch].attach(number)?;
-        let forked = self.fibers[fiber].fork(self.alloc, body, switch)?;
+        let forked = forker.fork(self.alloc, body, switch)?;
         self.fibers[fiber].go_on(rest)?;
         self.fibers.push(forked)?;
+        self.switches[switch].attach(number)?;
         self.ready.push_front(number)?;
         self.live += 1;
         Ok(())
