@@ -3,3 +3,4 @@ pub mod NextCall
 pub mod Detaching
 pub mod Callers
 pub mod CallsMove
+pub mod Heads
