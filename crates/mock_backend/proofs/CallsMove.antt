@@ -101,7 +101,7 @@ fork_past_fibers {g} {place} {body} {switch} {rest} {kept} {f} number unfinished
 }
 
 -- a switch that was read is the one under its number
-among : (switches : List Switched) (n : ℕ) (read : Switched) → n < length switches → read ≡ get_or switches n read → switch_among switches n ≡ read
+pub among : (switches : List Switched) (n : ℕ) (read : Switched) → n < length switches → read ≡ get_or switches n read → switch_among switches n ≡ read
 among switches n read within is = rw (slice_get_read switches (length switches) n read refl within is, switch_among)
 
 pub fork_one : {g place body switch number : ℕ} {rest : Rest} {kept : Kept} {f f' forked : KeptFiber} {fibers : List KeptFiber} {home home' : Switched} {ready : List ℕ} → IsHead g kept → switch ≡ slice_index (reverse f.scope) place → (switch_among kept.switches switch).finished ≡ false → kept.live < 1024 → number ≡ length kept.fibers

@@ -4,3 +4,4 @@ pub mod Detaching
 pub mod Callers
 pub mod CallsMove
 pub mod Heads
+pub mod Ends

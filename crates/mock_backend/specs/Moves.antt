@@ -1,6 +1,6 @@
 -- The machine's steps as moves of the definition.
 use Rattle.std.specs.Prelude.{◌≡◌, ℕ, ◌<◌, true, false, List, [], ◌∷◌, drop, length, slice_get, slice_index_or, Option, Some, None}
-use Rattle.first_model.specs.Machine.{Switched, Moved, quietly, traced, call, move}
+use Rattle.first_model.specs.Machine.{Switched, Moved, quietly, traced, call, detached, move}
 use Rattle.script_lang.specs.Pieces.{Piece}
 use Rattle.mock_backend.specs.declared.fiber.Call.{Call}
 use Rattle.mock_backend.specs.declared.fiber.Rest.{Rest}
@@ -27,6 +27,10 @@ call_of pieces fiber made rest kept =
 -- by this call, and with this work behind it, the fiber moves from one state to the other and writes nothing, under every script
 pub record MovesQuietly (fiber : ℕ) (made : Call) (rest : Rest) (old new : Kept) : Type 0 where
   pub moves : (pieces : List Piece) → call_of pieces fiber made rest old ≡ quietly (state_of pieces new)
+
+-- a fiber that has ended leaves its switch, which leads from one state to the other, under every script
+pub record Detaches (fiber switch : ℕ) (old new : Kept) : Type 0 where
+  pub leaves : (pieces : List Piece) → state_of pieces new ≡ detached fiber switch (state_of pieces old)
 
 -- a step under a script: no move is possible, or it is the next move
 abbrev pub Steps : List Piece → (old new : Kept) → Step → Type 0

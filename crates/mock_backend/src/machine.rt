@@ -4,13 +4,13 @@
 //! what isn't under a number is as the definition has it: no such fiber moves, and such a switch has finished.
 //! The theorem is the contract of [`Machine::step`]: a step is the definition's next move.
 
-ghost use Rattle.std.specs.Prelude.{◌≡◌, ◌<◌, List, length, drop, OnOk, IfOk, MatchOption, true, false};
-ghost use Rattle.first_model.specs.Machine.{detached, move, opening};
+ghost use Rattle.std.specs.Prelude.{◌≡◌, ◌≢◌, ◌<◌, ◌↔◌, IsTrue, [], List, length, drop, OnOk, IfOk, MatchOption, true, false};
+ghost use Rattle.first_model.specs.Machine.{move, opening};
 ghost use Rattle.first_model.specs.Answer.{ending_in};
 ghost use Rattle.script_lang.specs.Pieces.{Piece, block_at};
 ghost use Rattle.mock_backend.specs.Kept.{state_of};
 ghost use Rattle.mock_backend.specs.declared.fiber.Rest.{Rest};
-ghost use Rattle.mock_backend.specs.Moves.{IsHead, MovesQuietly, Steps, switch_among};
+ghost use Rattle.mock_backend.specs.Moves.{Detaches, IsHead, MovesQuietly, Steps, switch_among};
 
 use crate::fiber::{Call, Fiber, Rest};
 use crate::switch::Switch;
@@ -194,16 +194,17 @@ impl Machine {
         requires { IsHead fiber self.old }
         ensures { OnOk result (MovesQuietly fiber (Call.Close switch) rest self.old self.new) }
     {
+        if self.has_attached(switch) {
+            self.switches[switch].wait(fiber);
+            self.ready.pop_front();
+            return self.fibers[fiber].wait(switch, rest);
+        }
+        self.fibers[fiber].leave(rest)?;
+        self.contexts = self.contexts.saturating_sub(1);
         if let Some(closed) = self.switches.get_mut(switch) {
-            if !closed.is_empty() {
-                closed.wait(fiber);
-                self.ready.pop_front();
-                return self.fibers[fiber].wait(switch, rest);
-            }
             closed.finish();
         }
-        self.contexts = self.contexts.saturating_sub(1);
-        self.fibers[fiber].leave(rest)
+        Ok(())
     }
 
     /// `end`: the fiber leaves its switch. With main the root context ends.
@@ -224,7 +225,7 @@ impl Machine {
 
     /// A fiber that ended leaves its switch. The fiber that waited for it goes to the back of the ready list.
     fn detach(&mut self, fiber: usize, switch: usize) -> Result<(), AllocError>
-        ensures { OnOk result ((pieces : List Piece) → state_of pieces self.new ≡ detached fiber switch (state_of pieces self.old)) }
+        ensures { OnOk result (Detaches fiber switch self.old self.new) }
     {
         if let Some(left) = self.switches.get_mut(switch) {
             if let Some(closer) = left.detach(fiber) {
@@ -242,6 +243,17 @@ impl Machine {
         match self.switches.get(switch) {
             Some(found) => found.is_finished(),
             None => true,
+        }
+    }
+
+    /// Whether a `close` of this switch waits.
+    fn has_attached(&self, switch: usize) -> bool
+        ensures attached { IsTrue result ↔ ((switch_among self.now.switches switch).attached ≢ []) }
+        ensures there { result ≡ true → switch < length self.now.switches }
+    {
+        match self.switches.get(switch) {
+            Some(found) => !found.is_empty(),
+            None => false,
         }
     }
 }
