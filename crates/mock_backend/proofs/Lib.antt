@@ -5,3 +5,4 @@ pub mod Callers
 pub mod CallsMove
 pub mod Heads
 pub mod Ends
+pub mod Closes

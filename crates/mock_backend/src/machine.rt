@@ -4,7 +4,7 @@
 //! what isn't under a number is as the definition has it: no such fiber moves, and such a switch has finished.
 //! The theorem is the contract of [`Machine::step`]: a step is the definition's next move.
 
-ghost use Rattle.std.specs.Prelude.{◌≡◌, ◌≢◌, ◌<◌, ◌↔◌, IsTrue, [], List, length, drop, OnOk, IfOk, MatchOption, true, false};
+ghost use Rattle.std.specs.Prelude.{◌≡◌, ◌<◌, ◌↔◌, IsTrue, [], List, length, drop, OnOk, IfOk, MatchOption, true, false};
 ghost use Rattle.first_model.specs.Machine.{move, opening};
 ghost use Rattle.first_model.specs.Answer.{ending_in};
 ghost use Rattle.script_lang.specs.Pieces.{Piece, block_at};
@@ -194,7 +194,7 @@ impl Machine {
         requires { IsHead fiber self.old }
         ensures { OnOk result (MovesQuietly fiber (Call.Close switch) rest self.old self.new) }
     {
-        if self.has_attached(switch) {
+        if !self.is_empty(switch) {
             self.switches[switch].wait(fiber);
             self.ready.pop_front();
             return self.fibers[fiber].wait(switch, rest);
@@ -246,14 +246,14 @@ impl Machine {
         }
     }
 
-    /// Whether a `close` of this switch waits.
-    fn has_attached(&self, switch: usize) -> bool
-        ensures attached { IsTrue result ↔ ((switch_among self.now.switches switch).attached ≢ []) }
-        ensures there { result ≡ true → switch < length self.now.switches }
+    /// Whether nobody is attached to this switch, so that its `close` goes through.
+    fn is_empty(&self, switch: usize) -> bool
+        ensures empty { IsTrue result ↔ ((switch_among self.now.switches switch).attached ≡ []) }
+        ensures there { result ≡ false → switch < length self.now.switches }
     {
         match self.switches.get(switch) {
-            Some(found) => !found.is_empty(),
-            None => false,
+            Some(found) => found.is_empty(),
+            None => true,
         }
     }
 }
