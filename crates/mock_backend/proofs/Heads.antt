@@ -1,7 +1,7 @@
 -- Which move is next: that of the fiber at the head of the ready list, by its next call.
 use Rattle.std.proofs.Common.{◌≡◌, ℕ, ◌+◌, ◌<◌, ◌≤◌, List, [], ◌∷◌, length, map, set, drop, get_or, Option, Some, None, Bor, Bool, true, false, refl, ap, sym, ◌∙◌, subst, arith}
 use Rattle.std.specs.Prelude.{slice_get}
-use Rattle.std.proofs.lemmas.List.{length-map, map-set}
+use Rattle.std.proofs.lemmas.List.{length-map, map-set, get_or_default}
 use Rattle.std.proofs.lemmas.Option.{slice_get-map, slice_get_read, slice_get_past}
 use Rattle.std.specs.Option.{option_map}
 use Rattle.first_model.specs.Machine as model
@@ -12,7 +12,7 @@ use Rattle.mock_backend.specs.declared.fiber.Call.TheVariants.{Trace}
 use Rattle.mock_backend.specs.declared.fiber.Next.{Next as NextCall}
 use Rattle.mock_backend.specs.Kept.{KeptFiber, Kept, works, fiber_of, state_of}
 use Rattle.mock_backend.specs.Calls.{ask_of, next_of, left_of}
-use Rattle.mock_backend.specs.Moves.{MovesQuietly, call_of}
+use Rattle.mock_backend.specs.Moves.{IsHead, MovesQuietly, fiber_at, call_of}
 use Rattle.mock_backend.proofs.Callers.{Caller, head_of, fiber_read}
 
 -- the move of a state, from its ready list and from the fiber that was found
@@ -53,6 +53,15 @@ found : (pieces : List Piece) (kept : Kept) (g : ℕ) (f : KeptFiber) → g < le
 found pieces kept g f within read =
     slice_get-map (fiber_of pieces) kept.fibers g ∙ ap (option_map (fiber_of pieces)) (slice_get_read kept.fibers (length kept.fibers) g f refl within read)
 
+moves_by : (pieces : List Piece) {g : ℕ} (kept : Kept) (f : KeptFiber) → IsHead g kept → f ≡ get_or kept.fibers g f → move (state_of pieces kept) ≡ Some (fiber_move g (drop 1 kept.ready) (fiber_of pieces f) (state_of pieces kept))
+moves_by pieces {g} kept f head read =
+    let s : State = state_of pieces kept in
+    goes s head.going ∙ (ap (moving s) head.first ∙ ap (choosing s g (drop 1 kept.ready)) (found pieces kept g f head.within read))
+
+pub head_moves : (pieces : List Piece) {g : ℕ} (kept : Kept) → IsHead g kept → move (state_of pieces kept) ≡ Some (fiber_move g (drop 1 kept.ready) (fiber_of pieces (fiber_at kept g)) (state_of pieces kept))
+head_moves pieces {g} kept head =
+    moves_by pieces kept (fiber_at kept g) head (get_or_default kept.fibers g (record { work = []; scope = []; home = None; ended = true }) (fiber_at kept g) head.within)
+
 abbrev call_of_fiber : List Piece → ℕ → NextCall → Kept → KeptFiber → Moved
 call_of_fiber pieces g next kept f = call g (fiber_of pieces f) (drop 1 kept.ready) (ask_of pieces next.call) (works pieces (left_of next.rest f.work)) (state_of pieces kept)
 
@@ -60,12 +69,10 @@ call_of_fiber pieces g next kept f = call g (fiber_of pieces f) (drop 1 kept.rea
 pub next_moves : {g : ℕ} {kept old : Kept} {f : KeptFiber} (pieces : List Piece) (next : NextCall) → Caller g kept old f → next_call (works pieces f.work) ≡ next_of pieces f.work next → move (state_of pieces old) ≡ Some (call_of pieces g next.call next.rest old)
 next_moves {g} {kept} {old} {f} pieces next caller is =
     let s : State = state_of pieces kept in
-    let head = head_of caller in
-    let there = found pieces kept g f head.within caller.read in
     let called = ap (λ (n : Next). call g (fiber_of pieces f) (drop 1 kept.ready) n.ask n.work s) is in
-    let at_head = ap (λ (x : KeptFiber). call_of_fiber pieces g next kept x) (sym (fiber_read caller)) in
+    let at_head = ap (call_of_fiber pieces g next kept) (sym (fiber_read caller)) in
     ap (λ k. move (state_of pieces k)) (sym caller.same)
-    ∙ (goes s head.going ∙ (ap (moving s) head.first ∙ (ap (choosing s g (drop 1 kept.ready)) there ∙ ap (λ m. Some m) (called ∙ (at_head ∙ ap (call_of pieces g next.call next.rest) caller.same)))))
+    ∙ (moves_by pieces kept f (head_of caller) caller.read ∙ ap (λ m. Some m) (called ∙ (at_head ∙ ap (call_of pieces g next.call next.rest) caller.same)))
 
 -- a step that writes nothing
 pub quiet_step : {g : ℕ} {old new : Kept} (pieces : List Piece) (next : NextCall) {made : Call} → move (state_of pieces old) ≡ Some (call_of pieces g next.call next.rest old) → next.call ≡ made → MovesQuietly g made next.rest old new → move (state_of pieces old) ≡ Some (quietly (state_of pieces new))

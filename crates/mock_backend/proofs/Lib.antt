@@ -6,3 +6,4 @@ pub mod CallsMove
 pub mod Heads
 pub mod Ends
 pub mod Closes
+pub mod Endings
