@@ -1,1 +1,4 @@
 pub mod Beginnings
+pub mod Phrases
+pub mod Rows
+pub mod Accepting

@@ -1,3 +1,4 @@
 pub mod Pieces
 pub mod Arena
 pub mod Statements
+pub mod Reader
