@@ -1,0 +1,4 @@
+//! The script language: its scripts, and their reading from bytes.
+#![tactic(auto)]
+
+pub mod small;
