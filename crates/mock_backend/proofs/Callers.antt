@@ -1,5 +1,5 @@
 -- The fiber at the head of the ready list and its call, as the code reads them from the machine.
-use Rattle.std.proofs.Common.{◌≡◌, ℕ, ◌<◌, List, [], ◌∷◌, take, drop, length, get_or, None, Bool, true, ap, sym, ◌∙◌, subst}
+use Rattle.std.proofs.Common.{◌≡◌, ℕ, ◌<◌, List, [], drop, length, get_or, None, Bool, true, ap, sym, ◌∙◌, subst}
 use Rattle.std.proofs.lemmas.List.{get_or_read}
 use Rattle.first_model.specs.Machine.{call, quietly}
 use Rattle.script_lang.specs.Pieces.{Piece}
@@ -7,7 +7,7 @@ use Rattle.mock_backend.specs.declared.fiber.Call.{Call}
 use Rattle.mock_backend.specs.declared.fiber.Rest.{Rest}
 use Rattle.mock_backend.specs.Kept.{KeptFiber, Kept, works, fiber_of, state_of}
 use Rattle.mock_backend.specs.Calls.{ask_of, left_of}
-use Rattle.mock_backend.specs.Moves.{IsHead, MovesQuietly, fiber_at, call_of, switch_among}
+use Rattle.mock_backend.specs.Moves.{IsHead, MovesQuietly, fiber_at, switch_among}
 
 -- kept is the machine's old value, with its fields in sight, and f the fiber that was read from it
 pub record Caller (g : ℕ) (kept old : Kept) (f : KeptFiber) : Type 0 where
@@ -32,8 +32,8 @@ by_call {g} {made} {rest} {kept} {old} {new} {f} c calls =
     let P : Kept → Type 0 = λ k. MovesQuietly g made rest k new in
     subst P c.same (record {
       moves = λ pieces.
-        ap (λ x. call g (fiber_of pieces x) (drop 1 kept.ready) (ask_of pieces made) (works pieces (left_of rest x.work)) (state_of pieces kept)) (fiber_read c)
-        ∙ calls.calls pieces
+          ap (λ x. call g (fiber_of pieces x) (drop 1 kept.ready) (ask_of pieces made) (works pieces (left_of rest x.work)) (state_of pieces kept)) (fiber_read c)
+          ∙ calls.calls pieces;
     })
 
 -- a call whose outcome doesn't depend on the fiber

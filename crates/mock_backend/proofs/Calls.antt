@@ -1,11 +1,11 @@
 -- The call of one item of work, before what stands behind it.
-use Rattle.std.proofs.Common.{◌≡◌, ℕ, List, ◌∷◌, refl, ap, sym, ◌∙◌}
+use Rattle.std.proofs.Common.{◌≡◌, ℕ, List, ◌∷◌, refl, ap, ◌∙◌}
 use Rattle.first_model.specs.Script.{Statement, Block, Done, Then}
 use Rattle.first_model.specs.Machine as model
 use Rattle.first_model.specs.Machine.{Next, asked, next_call}
 use Rattle.script_lang.specs.Pieces.{Piece, block_at}
 use Rattle.mock_backend.specs.declared.fiber.Work.{Work}
-use Rattle.mock_backend.specs.declared.fiber.Work.TheVariants.{Run, Close}
+use Rattle.mock_backend.specs.declared.fiber.Work.TheVariants.{Run}
 use Rattle.mock_backend.specs.Kept.{work_of}
 
 pub close_call : (switch : ℕ) (behind : List model.Work) → next_call (model.CloseMark switch ∷ behind) ≡ record { ask = model.AskClose switch; work = behind }

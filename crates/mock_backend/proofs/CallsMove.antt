@@ -1,5 +1,5 @@
 -- Each call of a kept fiber is that of the definition.
-use Rattle.std.proofs.Common.{◌≡◌, ℕ, ◌+◌, ◌-◌, ◌<◌, ◌≤◌, List, [], ◌∷◌, ◌++◌, take, drop, length, set, map, reverse, nat_lt, slice_index, get_or, Some, Bool, true, false, refl, ap, sym, ◌∙◌, arith}
+use Rattle.std.proofs.Common.{◌≡◌, ℕ, ◌+◌, ◌<◌, ◌≤◌, List, [], ◌∷◌, ◌++◌, take, drop, length, set, reverse, slice_index, get_or, Some, Bool, true, false, refl, ap, sym, ◌∙◌, arith}
 use Rattle.std.proofs.lemmas.Grind.{common_steps}
 use Rattle.std.proofs.lemmas.List.{map-set, map_push, length-map}
 use Rattle.std.proofs.lemmas.Option.{slice_get_read}
@@ -11,7 +11,7 @@ use Rattle.script_lang.specs.Pieces.{Piece, block_at}
 use Rattle.mock_backend.specs.declared.fiber.Call.TheVariants as call
 use Rattle.mock_backend.specs.declared.fiber.Rest.{Rest}
 use Rattle.mock_backend.specs.Kept.{KeptFiber, Kept, fiber_for, works, fiber_of, state_of}
-use Rattle.mock_backend.specs.Calls.{left_of, entering, waiting, leaving}
+use Rattle.mock_backend.specs.Calls.{left_of, entering}
 use Rattle.mock_backend.specs.Switches.{open_switch}
 use Rattle.mock_backend.specs.Moves.{IsHead, switch_among}
 use Rattle.mock_backend.proofs.Callers.{Calls}
@@ -22,8 +22,8 @@ pub yields : {g : ℕ} {rest : Rest} {kept : Kept} {f f' : KeptFiber} {ready : L
 unfolding call
 yields {g} {rest} {kept} {f} {f'} {ready} head is turned = record {
   calls = λ pieces.
-    let fibers = map-set (fiber_of pieces) kept.fibers g f' in
-    let first : take 1 kept.ready ≡ g ∷ [] = ap (take 1) head.first in cc;
+      let fibers = map-set (fiber_of pieces) kept.fibers g f' in
+      let first : take 1 kept.ready ≡ g ∷ [] = ap (take 1) head.first in cc;
 }
 
 -- `switch`
@@ -51,9 +51,9 @@ pub opens : {g switch body : ℕ} {rest : Rest} {kept : Kept} {f f' : KeptFiber}
 unfolding call
 opens {g} {switch} {body} {rest} {kept} {f} {f'} {opened} {switches} few number is new more = record {
   calls = λ pieces.
-    let opens = within_contexts g (fiber_of pieces f) (block_at pieces body) (works pieces (left_of rest f.work)) (state_of pieces kept) few in
-    let fibers = map-set (fiber_of pieces) kept.fibers g f' in
-    let fiber = entered pieces (length kept.switches) body rest f in cc;
+      let opens = within_contexts g (fiber_of pieces f) (block_at pieces body) (works pieces (left_of rest f.work)) (state_of pieces kept) few in
+      let fibers = map-set (fiber_of pieces) kept.fibers g f' in
+      let fiber = entered pieces (length kept.switches) body rest f in cc;
 }
 
 -- `fork`
@@ -90,8 +90,8 @@ pub fork_nothing : {g place body switch : ℕ} {rest : Rest} {kept : Kept} {f f'
 unfolding call
 fork_nothing {g} {place} {body} {switch} {rest} {kept} {f} {f'} number finished is = record {
   calls = λ pieces.
-    forks_nothing g (fiber_of pieces f) (drop 1 kept.ready) place (block_at pieces body) (works pieces (left_of rest f.work)) (state_of pieces kept) (named place kept f true number finished)
-    ∙ worked pieces g rest kept f f' is;
+      forks_nothing g (fiber_of pieces f) (drop 1 kept.ready) place (block_at pieces body) (works pieces (left_of rest f.work)) (state_of pieces kept) (named place kept f true number finished)
+      ∙ worked pieces g rest kept f f' is;
 }
 
 pub fork_past_fibers : {g place body switch : ℕ} {rest : Rest} {kept : Kept} {f : KeptFiber} → switch ≡ slice_index (reverse f.scope) place → (switch_among kept.switches switch).finished ≡ false → 1024 ≤ kept.live → Calls g (call.Fork place body) rest kept f (record kept { halted = true })
@@ -105,16 +105,16 @@ pub among : (switches : List Switched) (n : ℕ) (read : Switched) → n < lengt
 among switches n read within is = rw (slice_get_read switches (length switches) n read refl within is, switch_among)
 
 pub fork_one : {g place body switch number : ℕ} {rest : Rest} {kept : Kept} {f f' forked : KeptFiber} {fibers : List KeptFiber} {home home' : Switched} {ready : List ℕ} → IsHead g kept → switch ≡ slice_index (reverse f.scope) place → (switch_among kept.switches switch).finished ≡ false → kept.live < 1024 → number ≡ length kept.fibers
-  → f' ≡ record f { work = left_of rest f.work } → forked ≡ fiber_for body f.scope (Some switch) → fibers ≡ set kept.fibers g f' ++ forked ∷ []
-  → switch < length kept.switches → home ≡ get_or kept.switches switch home → home' ≡ record home { attached = home.attached ++ number ∷ [] } → ready ≡ number ∷ kept.ready
-  → Calls g (call.Fork place body) rest kept f (record kept { fibers = fibers; switches = set kept.switches switch home'; ready = ready; live = kept.live + 1 })
+    → f' ≡ record f { work = left_of rest f.work } → forked ≡ fiber_for body f.scope (Some switch) → fibers ≡ set kept.fibers g f' ++ forked ∷ []
+    → switch < length kept.switches → home ≡ get_or kept.switches switch home → home' ≡ record home { attached = home.attached ++ number ∷ [] } → ready ≡ number ∷ kept.ready
+    → Calls g (call.Fork place body) rest kept f (record kept { fibers = fibers; switches = set kept.switches switch home'; ready = ready; live = kept.live + 1 })
 unfolding call
 fork_one {g} {place} {body} {switch} {number} {rest} {kept} {f} {f'} {forked} {fibers} {home} {home'} {ready} head named_is unfinished few number_is is new pushed within read attached first = record {
   calls = λ pieces.
-    forks_one g (fiber_of pieces f) (drop 1 kept.ready) place (block_at pieces body) (works pieces (left_of rest f.work)) (state_of pieces kept) (named place kept f false named_is unfinished) few
-    ∙ (let went = map-set (fiber_of pieces) kept.fibers g f' in
-    let all = map_push (fiber_of pieces) (set kept.fibers g f') forked in
-    let count = length-map kept.fibers (fiber_of pieces) in
-    let there = among kept.switches switch home within read in
-    let stood = head.first in cc);
+      forks_one g (fiber_of pieces f) (drop 1 kept.ready) place (block_at pieces body) (works pieces (left_of rest f.work)) (state_of pieces kept) (named place kept f false named_is unfinished) few
+      ∙ (let went = map-set (fiber_of pieces) kept.fibers g f' in
+      let all = map_push (fiber_of pieces) (set kept.fibers g f') forked in
+      let count = length-map kept.fibers (fiber_of pieces) in
+      let there = among kept.switches switch home within read in
+      let stood = head.first in cc);
 }

@@ -1,5 +1,5 @@
 -- The call `close`.
-use Rattle.std.proofs.Common.{◌≡◌, ◌≢◌, ℕ, ◌+◌, ◌-◌, ◌<◌, ◌≤◌, List, [], ◌∷◌, ◌++◌, length, set, map, reverse, take, drop, get_or, Some, None, true, refl, ap, sym, ◌∙◌, arith}
+use Rattle.std.proofs.Common.{◌≡◌, ◌≢◌, ℕ, ◌+◌, ◌-◌, ◌<◌, ◌≤◌, List, [], ◌∷◌, ◌++◌, length, set, reverse, take, drop, get_or, Some, None, true, refl, ap, sym, ◌∙◌, arith}
 use Rattle.std.proofs.lemmas.Grind.{common_steps}
 use Rattle.std.proofs.lemmas.List.{map-set, set_past, take_all, take_more, reverse-append}
 use Rattle.std.proofs.lemmas.Option.{slice_get_past}
@@ -33,10 +33,10 @@ pub close_waits : {g n : ℕ} {rest : Rest} {kept : Kept} {f f' : KeptFiber} {re
 unfolding call
 close_waits {g} {n} {rest} {kept} {f} {f'} {read} {read'} {ready} some within is closer ready_is went = record {
   calls = λ pieces.
-    waits g n (fiber_of pieces f) (drop 1 kept.ready) (works pieces (left_of rest f.work)) (state_of pieces kept) some
-    ∙ (let fibers = map-set (fiber_of pieces) kept.fibers g f' in
-    let fiber = waited pieces n rest f in
-    let there = among kept.switches n read within is in cc);
+      waits g n (fiber_of pieces f) (drop 1 kept.ready) (works pieces (left_of rest f.work)) (state_of pieces kept) some
+      ∙ (let fibers = map-set (fiber_of pieces) kept.fibers g f' in
+      let fiber = waited pieces n rest f in
+      let there = among kept.switches n read within is in cc);
 }
 
 -- a switch that finishes
@@ -60,10 +60,10 @@ pub close_finishes : {g n contexts : ℕ} {rest : Rest} {kept : Kept} {f f' : Ke
 unfolding call
 close_finishes {g} {n} {contexts} {rest} {kept} {f} {f'} {read} {read'} none within is finished fewer went = record {
   calls = λ pieces.
-    finishes g n (fiber_of pieces f) (drop 1 kept.ready) (works pieces (left_of rest f.work)) (state_of pieces kept) none
-    ∙ (let fibers = map-set (fiber_of pieces) kept.fibers g f' in
-    let fiber = left pieces rest f in
-    let there = among kept.switches n read within is in cc);
+      finishes g n (fiber_of pieces f) (drop 1 kept.ready) (works pieces (left_of rest f.work)) (state_of pieces kept) none
+      ∙ (let fibers = map-set (fiber_of pieces) kept.fibers g f' in
+      let fiber = left pieces rest f in
+      let there = among kept.switches n read within is in cc);
 }
 
 -- a switch that isn't there
@@ -71,9 +71,9 @@ pub close_missing : {g n contexts : ℕ} {rest : Rest} {kept : Kept} {f f' : Kep
 unfolding call
 close_missing {g} {n} {contexts} {rest} {kept} {f} {f'} past fewer went = record {
   calls = λ pieces.
-    let gone : switch_among kept.switches n ≡ record { attached = []; closer = None; finished = true } = rw (slice_get_past kept.switches n past, switch_among) in
-    finishes g n (fiber_of pieces f) (drop 1 kept.ready) (works pieces (left_of rest f.work)) (state_of pieces kept) (ap (λ (x : Switched). x.attached) gone)
-    ∙ (let fibers = map-set (fiber_of pieces) kept.fibers g f' in
-    let fiber = left pieces rest f in
-    let same = set_past kept.switches n (record { attached = []; closer = None; finished = true }) past in cc);
+      let gone : switch_among kept.switches n ≡ record { attached = []; closer = None; finished = true } = rw (slice_get_past kept.switches n past, switch_among) in
+      finishes g n (fiber_of pieces f) (drop 1 kept.ready) (works pieces (left_of rest f.work)) (state_of pieces kept) (ap (λ (x : Switched). x.attached) gone)
+      ∙ (let fibers = map-set (fiber_of pieces) kept.fibers g f' in
+      let fiber = left pieces rest f in
+      let same = set_past kept.switches n (record { attached = []; closer = None; finished = true }) past in cc);
 }

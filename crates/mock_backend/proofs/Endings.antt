@@ -1,14 +1,13 @@
 -- How a run ends while a fiber can still move.
-use Rattle.std.proofs.Common.{◌≡◌, ℕ, List, [], ◌∷◌, drop, get_or, map, Option, Some, None, MatchOption, is_some, Bool, true, false, refl, ap, sym, ◌∙◌}
+use Rattle.std.proofs.Common.{◌≡◌, ℕ, List, Option, Some, None, MatchOption, is_some, Bool, true, false, ap, sym, ◌∙◌}
 use Rattle.std.proofs.lemmas.Bool.{false≢true}
-use Rattle.std.proofs.lemmas.List.{get_or_default}
 use Rattle.first_model.specs.declared.Ending.{Ending}
 use Rattle.first_model.specs.declared.Ending.TheVariants as ending
 use Rattle.first_model.specs.Machine.{State, Moved, move}
 use Rattle.first_model.specs.Answer.{ending_in, has_main_ended}
 use Rattle.script_lang.specs.Pieces.{Piece}
 use Rattle.mock_backend.specs.Kept.{Kept, state_of}
-use Rattle.mock_backend.specs.Moves.{IsHead, fiber_at}
+use Rattle.mock_backend.specs.Moves.{IsHead}
 use Rattle.mock_backend.proofs.Heads.{head_moves}
 
 -- the ending of a state that isn't halted, from its next move

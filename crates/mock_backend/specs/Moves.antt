@@ -1,5 +1,5 @@
 -- The machine's steps as moves of the definition.
-use Rattle.std.specs.Prelude.{◌≡◌, ℕ, ◌<◌, true, false, List, [], ◌∷◌, drop, length, slice_get, slice_index_or, Option, Some, None}
+use Rattle.std.specs.Prelude.{◌≡◌, ℕ, ◌<◌, true, false, List, [], ◌∷◌, drop, length, slice_get, slice_index_or, Some, None}
 use Rattle.first_model.specs.Machine.{Switched, Moved, quietly, traced, call, detached, move}
 use Rattle.script_lang.specs.Pieces.{Piece}
 use Rattle.mock_backend.specs.declared.fiber.Call.{Call}

@@ -31,8 +31,14 @@ impl Work {
             Work::Close(switch) => Some((Call::Close { switch }, None)),
             Work::Run(number) => match script.statement_at(number) {
                 None => None,
-                Some(Statement::Switch { body, after }) => Some((Call::Switch { body }, Some(after))),
-                Some(Statement::Fork { place, body, after }) => Some((Call::Fork { place, body }, Some(after))),
+                Some(Statement::Switch { body, after }) => Some((
+                    Call::Switch { body },
+                    Some(after),
+                )),
+                Some(Statement::Fork { place, body, after }) => Some((
+                    Call::Fork { place, body },
+                    Some(after),
+                )),
                 Some(Statement::Trace { text, after }) => Some((Call::Trace { text }, Some(after))),
                 Some(Statement::Yield { after }) => Some((Call::Yield, Some(after))),
             },
@@ -87,7 +93,12 @@ impl Model for Fiber {
 
 impl Fiber {
     /// A fiber that has this block to run.
-    pub(crate) fn start(alloc: Global, body: u32, scope: Vec<usize>, home: Option<usize>) -> Result<Fiber, AllocError>
+    pub(crate) fn start(
+        alloc: Global,
+        body: u32,
+        scope: Vec<usize>,
+        home: Option<usize>,
+    ) -> Result<Fiber, AllocError>
         ensures { IfOk result (λ fiber. fiber ≡ fiber_for body scope.items home) }
     {
         let mut work = Vec::new(alloc);

@@ -50,12 +50,12 @@ impl Model for Machine {
     ghost Value = { Kept };
 
     ghost view = { λ m. record {
-        fibers = m.fibers.items;
-        ready = m.ready.items;
-        switches = m.switches.items;
-        live = m.live;
-        contexts = m.contexts;
-        halted = m.halted;
+      fibers = m.fibers.items;
+      ready = m.ready.items;
+      switches = m.switches.items;
+      live = m.live;
+      contexts = m.contexts;
+      halted = m.halted;
     } };
 }
 
@@ -136,7 +136,11 @@ impl Machine {
             return None;
         }
         let fiber = *self.ready.front()?;
-        if fiber < self.fibers.len() { Some(fiber) } else { None }
+        if fiber < self.fibers.len() {
+            Some(fiber)
+        } else {
+            None
+        }
     }
 
     /// `yield`: the fiber goes to the back of the ready list.

@@ -24,7 +24,7 @@ returns c =
     let none : (switch_among c.self.inside.switches.items c.args.switch).attached ≡ [] = same ∙ c.if-not-is_empty.ensures.empty.0 refl in
     elim c.match-get_mut.branch [
       | in-Some w ↦ (let within : c.args.switch < length c.self.inside.switches.items = omega (arith, w.in-Some.ensures.variant.0 refl, c.self.inside.switches.ok.0) in
-        rw w.self-inside-is (by_call caller (close_finishes none within w.in-Some.ensures.value w.finish.ensures c.saturating_sub-self-inside.ensures c.in_ok-leave.ensures)))
+          rw w.self-inside-is (by_call caller (close_finishes none within w.in-Some.ensures.value w.finish.ensures c.saturating_sub-self-inside.ensures c.in_ok-leave.ensures)))
       | in_default w ↦ (let past : length c.self.inside.switches.items ≤ c.args.switch = grind (arith, common_steps) in
-        rw w.self-inside-is (by_call caller (close_missing past c.saturating_sub-self-inside.ensures c.in_ok-leave.ensures)))
+          rw w.self-inside-is (by_call caller (close_missing past c.saturating_sub-self-inside.ensures c.in_ok-leave.ensures)))
     ]

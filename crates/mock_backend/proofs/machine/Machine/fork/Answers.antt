@@ -1,4 +1,4 @@
-use Rattle.std.proofs.Common.{◌≡◌, reverse, slice_index, Some, refl, ap, ◌∙◌}
+use Rattle.std.proofs.Common.{reverse, slice_index, Some, refl, ap, ◌∙◌}
 use Rattle.std.proofs.lemmas.Result.{on_ok_weaker}
 use Rattle.mock_backend.specs.Kept.{KeptFiber, fiber_for}
 use Rattle.mock_backend.proofs.Callers.{Caller, head_of, by_call, same_fiber, finished_read, switch_within}
