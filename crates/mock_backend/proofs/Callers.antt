@@ -1,7 +1,8 @@
 -- The fiber at the head of the ready list and its call, as the code reads them from the machine.
-use Rattle.std.proofs.Common.{◌≡◌, ℕ, ◌<◌, List, [], drop, length, get_or, None, Bool, true, ap, sym, ◌∙◌, subst}
+use Rattle.std.proofs.Common.{◌≡◌, ℕ, ◌<◌, List, [], drop, length, get_or, None, Bool, true, ap, refl, sym, ◌∙◌, subst}
 use Rattle.std.proofs.lemmas.List.{get_or_read}
-use Rattle.first_model.specs.Machine.{call, quietly}
+use Rattle.std.proofs.lemmas.Option.{slice_get_read}
+use Rattle.first_model.specs.Machine.{Switched, call, quietly}
 use Rattle.script_lang.specs.Pieces.{Piece}
 use Rattle.mock_backend.specs.declared.fiber.Call.{Call}
 use Rattle.mock_backend.specs.declared.fiber.Rest.{Rest}
@@ -52,3 +53,7 @@ finished_read switch same is = ap (λ (k : Kept). (switch_among k.switches switc
 
 pub switch_within : {kept old : Kept} (switch : ℕ) → kept ≡ old → switch < length old.switches → switch < length kept.switches
 switch_within {kept} {old} switch same within = let P : Kept → Type 0 = λ k. switch < length k.switches in subst P (sym same) within
+
+-- a switch that was read is the one under its number
+pub among : (switches : List Switched) (n : ℕ) (read : Switched) → n < length switches → read ≡ get_or switches n read → switch_among switches n ≡ read
+among switches n read within is = rw (slice_get_read switches (length switches) n read refl within is, switch_among)

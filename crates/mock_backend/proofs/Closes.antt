@@ -11,8 +11,7 @@ use Rattle.mock_backend.specs.declared.fiber.Rest.{Rest}
 use Rattle.mock_backend.specs.Kept.{KeptFiber, Kept, works, fiber_of, state_of}
 use Rattle.mock_backend.specs.Calls.{left_of, waiting, leaving}
 use Rattle.mock_backend.specs.Moves.{switch_among}
-use Rattle.mock_backend.proofs.Callers.{Calls}
-use Rattle.mock_backend.proofs.CallsMove.{among}
+use Rattle.mock_backend.proofs.Callers.{Calls, among}
 
 if_none : {A : Type 0} (xs : List ℕ) (x y : A) → xs ≡ [] → elim xs [ [] ↦ x | h ∷ hs ↦ y ] ≡ x
 if_none {A} xs x y is = ap (λ (zs : List ℕ). let z : A = elim zs [ [] ↦ x | h ∷ hs ↦ y ] in z) is

@@ -9,8 +9,7 @@ use Rattle.mock_backend.specs.declared.fiber.Rest.{Rest}
 use Rattle.mock_backend.specs.Kept.{KeptFiber, Kept, fiber_of, state_of}
 use Rattle.mock_backend.specs.Switches.{detaching, without}
 use Rattle.mock_backend.specs.Moves.{Detaches}
-use Rattle.mock_backend.proofs.Callers.{Calls}
-use Rattle.mock_backend.proofs.CallsMove.{among}
+use Rattle.mock_backend.proofs.Callers.{Calls, among}
 
 -- a state in which so many are left at a switch
 abbrev leaving_at : ℕ → State → Switched → List ℕ → State

@@ -1,9 +1,11 @@
-pub mod Calls
+pub mod Items
 pub mod NextCall
 pub mod Detaching
 pub mod Callers
-pub mod CallsMove
 pub mod Heads
-pub mod Ends
+pub mod Yields
+pub mod Opens
+pub mod Forks
 pub mod Closes
+pub mod Ends
 pub mod Endings

@@ -23,7 +23,7 @@ pub(crate) enum Work {
 
 impl Work {
     /// The call that this item makes, and the rest of its block. A finished block makes none.
-    #[tactic(auto, using(crate::proofs::Calls::close_call, crate::proofs::Calls::no_call))]
+    #[tactic(auto, using(crate::proofs::Items::close_call, crate::proofs::Items::no_call))]
     fn call<'a>(&self, script: &'a Script) -> Option<(Call<'a>, Option<u32>)>
         ensures { IsCall script.now self.now result }
     {

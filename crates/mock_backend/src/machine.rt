@@ -2,7 +2,11 @@
 //!
 //! The fiber at the head of the ready list moves. Fibers and switches go by number, in the order in which they began;
 //! what isn't under a number is as the definition has it: no such fiber moves, and such a switch has finished.
-//! The theorem is the contract of [`Machine::step`]: a step is the definition's next move.
+//! So nothing has to hold between the fields, and the counts stop at 0 as the definition's do: that a fiber ends once
+//! and a switch closes once is not needed here.
+//! The theorem is the contract of [`Machine::step`]: a step is the definition's next move. Each call has a method, whose
+//! contract says that it is the definition's call; its proof joins a lemma on the definition (`proofs/`, one file a call)
+//! to what the code read and wrote.
 
 ghost use Rattle.std.specs.Prelude.{◌≡◌, ◌<◌, ◌↔◌, IsTrue, [], List, length, drop, OnOk, IfOk, MatchOption, true, false};
 ghost use Rattle.first_model.specs.Machine.{move, opening};
@@ -36,9 +40,9 @@ pub(crate) struct Machine {
     ready: VecDeque<usize>,
     /// By number.
     switches: Vec<Switch>,
-    /// How many fibers have not ended.
+    /// How many fibers have not ended, at most [`MOST_FIBERS`].
     live: u32,
-    /// How many contexts have not ended.
+    /// How many contexts have not ended, at most [`MOST_CONTEXTS`].
     contexts: u32,
     /// A call would have passed a limit.
     halted: bool,

@@ -1,4 +1,4 @@
-use Rattle.mock_backend.proofs.Calls.{statement_call}
+use Rattle.mock_backend.proofs.Items.{statement_call}
 use Rattle.mock_backend.proofs.fiber.Work.call.Goals as goal
 
 pub returns-in-Some-Switch : goal.returns-in-Some-Switch

@@ -2,7 +2,7 @@ use Rattle.std.proofs.Common.{reverse, slice_index, Some, refl, ap, ◌∙◌}
 use Rattle.std.proofs.lemmas.Result.{on_ok_weaker}
 use Rattle.mock_backend.specs.Kept.{KeptFiber, fiber_for}
 use Rattle.mock_backend.proofs.Callers.{Caller, head_of, by_call, same_fiber, finished_read, switch_within}
-use Rattle.mock_backend.proofs.CallsMove.{fork_nothing, fork_past_fibers, fork_one}
+use Rattle.mock_backend.proofs.Forks.{fork_nothing, fork_past_fibers, fork_one}
 use Rattle.mock_backend.proofs.machine.Machine.fork.Goals as goal
 
 pub returns-then-is_finished : goal.returns-then-is_finished

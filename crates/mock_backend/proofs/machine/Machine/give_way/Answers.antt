@@ -1,5 +1,5 @@
 use Rattle.mock_backend.proofs.Callers.{Caller, head_of, by_call}
-use Rattle.mock_backend.proofs.CallsMove.{yields}
+use Rattle.mock_backend.proofs.Yields.{yields}
 use Rattle.mock_backend.proofs.machine.Machine.give_way.Goals as goal
 
 pub returns : goal.returns

@@ -1,6 +1,6 @@
 use Rattle.std.proofs.Common.{◌∙◌}
 use Rattle.mock_backend.proofs.Callers.{Caller, by_call, by_any}
-use Rattle.mock_backend.proofs.CallsMove.{switch_past_contexts, opens}
+use Rattle.mock_backend.proofs.Opens.{switch_past_contexts, opens}
 use Rattle.mock_backend.proofs.machine.Machine.open_switch.Goals as goal
 
 pub returns-then-self-ge-MOST_CONTEXTS : goal.returns-then-self-ge-MOST_CONTEXTS

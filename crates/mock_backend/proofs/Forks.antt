@@ -1,4 +1,4 @@
--- Each call of a kept fiber is that of the definition.
+-- The call `fork`.
 use Rattle.std.proofs.Common.{◌≡◌, ℕ, ◌+◌, ◌<◌, ◌≤◌, List, [], ◌∷◌, ◌++◌, take, drop, length, set, reverse, slice_index, get_or, Some, Bool, true, false, refl, ap, sym, ◌∙◌, arith}
 use Rattle.std.proofs.lemmas.Grind.{common_steps}
 use Rattle.std.proofs.lemmas.List.{map-set, map_push, length-map}
@@ -14,49 +14,7 @@ use Rattle.mock_backend.specs.Kept.{KeptFiber, Kept, fiber_for, works, fiber_of,
 use Rattle.mock_backend.specs.Calls.{left_of, entering}
 use Rattle.mock_backend.specs.Switches.{open_switch}
 use Rattle.mock_backend.specs.Moves.{IsHead, switch_among}
-use Rattle.mock_backend.proofs.Callers.{Calls}
-
--- `yield`
-
-pub yields : {g : ℕ} {rest : Rest} {kept : Kept} {f f' : KeptFiber} {ready : List ℕ} → IsHead g kept → f' ≡ record f { work = left_of rest f.work } → ready ≡ drop 1 kept.ready ++ take 1 kept.ready → Calls g call.Yield rest kept f (record kept { fibers = set kept.fibers g f'; ready = ready })
-unfolding call
-yields {g} {rest} {kept} {f} {f'} {ready} head is turned = record {
-  calls = λ pieces.
-      let fibers = map-set (fiber_of pieces) kept.fibers g f' in
-      let first : take 1 kept.ready ≡ g ∷ [] = ap (take 1) head.first in cc;
-}
-
--- `switch`
-
-past_contexts : (g : ℕ) (f : model.Fiber) (body : Block) (work : List model.Work) (s : State) → 4096 ≤ s.contexts → opens_switch g f body work s ≡ limit s
-past_contexts g f body work s many = rw (le-ltb s.contexts 4096 many, opens_switch)
-
-pub switch_past_contexts : (g body : ℕ) (rest : Rest) (kept : Kept) (f : KeptFiber) → 4096 ≤ kept.contexts → Calls g (call.Switch body) rest kept f (record kept { halted = true })
-unfolding call
-switch_past_contexts g body rest kept f many = record {
-  calls = λ pieces. past_contexts g (fiber_of pieces f) (block_at pieces body) (works pieces (left_of rest f.work)) (state_of pieces kept) many;
-}
-
-within_contexts : (g : ℕ) (f : model.Fiber) (body : Block) (work : List model.Work) (s : State) → s.contexts < 4096 → opens_switch g f body work s ≡ quietly (record s {
-  fibers = set s.fibers g (record f { work = model.Run body ∷ model.CloseMark (length s.switches) ∷ work; scope = length s.switches ∷ f.scope });
-  switches = s.switches ++ open_switch ∷ [];
-  contexts = s.contexts + 1;
-})
-within_contexts g f body work s few = rw (lt-ltb s.contexts 4096 few, opens_switch)
-
-entered : (pieces : List Piece) (switch body : ℕ) (rest : Rest) (f : KeptFiber) → fiber_of pieces (entering switch body rest f) ≡ record (fiber_of pieces f) { work = model.Run (block_at pieces body) ∷ model.CloseMark switch ∷ works pieces (left_of rest f.work); scope = switch ∷ reverse f.scope }
-entered pieces switch body rest f = grind (arith, common_steps)
-
-pub opens : {g switch body : ℕ} {rest : Rest} {kept : Kept} {f f' : KeptFiber} {opened : Switched} {switches : List Switched} → kept.contexts < 4096 → switch ≡ length kept.switches → f' ≡ entering switch body rest f → opened ≡ open_switch → switches ≡ kept.switches ++ opened ∷ [] → Calls g (call.Switch body) rest kept f (record kept { fibers = set kept.fibers g f'; switches = switches; contexts = kept.contexts + 1 })
-unfolding call
-opens {g} {switch} {body} {rest} {kept} {f} {f'} {opened} {switches} few number is new more = record {
-  calls = λ pieces.
-      let opens = within_contexts g (fiber_of pieces f) (block_at pieces body) (works pieces (left_of rest f.work)) (state_of pieces kept) few in
-      let fibers = map-set (fiber_of pieces) kept.fibers g f' in
-      let fiber = entered pieces (length kept.switches) body rest f in cc;
-}
-
--- `fork`
+use Rattle.mock_backend.proofs.Callers.{Calls, among}
 
 if_true : {A : Type 0} (b : Bool) (x y : A) → b ≡ true → elim b [ true ↦ x | false ↦ y ] ≡ x
 if_true {A} b x y is = ap (λ (b : Bool). let z : A = elim b [ true ↦ x | false ↦ y ] in z) is
@@ -99,10 +57,6 @@ unfolding call
 fork_past_fibers {g} {place} {body} {switch} {rest} {kept} {f} number unfinished many = record {
   calls = λ pieces. past_fibers g (fiber_of pieces f) (drop 1 kept.ready) place (block_at pieces body) (works pieces (left_of rest f.work)) (state_of pieces kept) (named place kept f false number unfinished) many;
 }
-
--- a switch that was read is the one under its number
-pub among : (switches : List Switched) (n : ℕ) (read : Switched) → n < length switches → read ≡ get_or switches n read → switch_among switches n ≡ read
-among switches n read within is = rw (slice_get_read switches (length switches) n read refl within is, switch_among)
 
 pub fork_one : {g place body switch number : ℕ} {rest : Rest} {kept : Kept} {f f' forked : KeptFiber} {fibers : List KeptFiber} {home home' : Switched} {ready : List ℕ} → IsHead g kept → switch ≡ slice_index (reverse f.scope) place → (switch_among kept.switches switch).finished ≡ false → kept.live < 1024 → number ≡ length kept.fibers
     → f' ≡ record f { work = left_of rest f.work } → forked ≡ fiber_for body f.scope (Some switch) → fibers ≡ set kept.fibers g f' ++ forked ∷ []
