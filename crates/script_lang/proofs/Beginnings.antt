@@ -1,5 +1,5 @@
 -- The block that begins at a node, by what the node is.
-use Rattle.std.proofs.Common.{◌≡◌, ℕ, ◌+◌, ◌<◌, ◌≤◌, List, ◌∷◌, map, length, drop, Some, get_or, refl, ap, sym, ◌∙◌, add-one}
+use Rattle.std.proofs.Common.{All, subst, ◌≡◌, ℕ, ◌+◌, ◌<◌, ◌≤◌, List, ◌∷◌, map, length, drop, Some, get_or, refl, ap, sym, ◌∙◌, add-one}
 use Rattle.std.specs.Prelude.{slice_get, slice_range}
 use Rattle.std.proofs.lemmas.List.{drop-map, drop_all}
 use Rattle.std.proofs.lemmas.Option.{slice_get-get_or, slice_get_within, get_or_from_slice_get}
@@ -8,7 +8,7 @@ use Rattle.first_model.specs.Script.{Switch, Fork, Trace, Yield, Block, Done, Th
 use Rattle.script_lang.specs.declared.small.arena.Node.{Node}
 use Rattle.script_lang.specs.declared.small.arena.Node.TheVariants as node
 use Rattle.script_lang.specs.Pieces.{first, blocks, block_at}
-use Rattle.script_lang.specs.Arena.{piece_of, pieces_of, IsSound}
+use Rattle.script_lang.specs.Arena.{piece_of, pieces_of, IsWithin, IsSound}
 
 -- what an index reads is there
 pub is_there : (nodes : List Node) (number : ℕ) (n m : Node) → number < length nodes → n ≡ get_or nodes number n → n ≡ m → slice_get nodes number ≡ Some m
@@ -20,6 +20,9 @@ pieces_from texts nodes number n there =
     let split : drop number nodes ≡ get_or nodes number n ∷ drop (number + 1) nodes = rw (add-one, drop-cons nodes number n) refl in
     let split_at : drop number nodes ≡ n ∷ drop (number + 1) nodes = split ∙ ap (λ x. x ∷ drop (number + 1) nodes) (get_or_from_slice_get nodes number n n there) in
     drop-map (piece_of texts) number nodes ∙ (ap (λ ns. map (piece_of texts) ns) split_at ∙ ap (λ ps. piece_of texts n ∷ ps) (sym (drop-map (piece_of texts) (number + 1) nodes)))
+
+pub within_at : (texts : List ℕ) (nodes : List Node) (number : ℕ) (n : Node) → All (IsWithin texts) nodes → slice_get nodes number ≡ Some n → IsWithin texts n
+within_at texts nodes number n within there = subst (IsWithin texts) (get_or_from_slice_get nodes number n n there) (within number n (slice_get_within nodes number n there))
 
 -- the block at a node is the first of those that it spells with the pieces behind it
 block_from : (texts : List ℕ) (nodes : List Node) (number : ℕ) (n : Node) → slice_get nodes number ≡ Some n → block_at (pieces_of texts nodes) number ≡ first (blocks (piece_of texts n ∷ drop (number + 1) (pieces_of texts nodes)))

@@ -1,5 +1,5 @@
 -- What the nodes of an arena stand for, with the bytes of all texts.
-use Rattle.std.specs.Prelude.{◌≡◌, ℕ, ◌+◌, ◌<◌, ◌≤◌, ◌^◌, List, map, length, drop, Some, slice_get, slice_range}
+use Rattle.std.specs.Prelude.{◌≡◌, ℕ, ◌+◌, ◌<◌, ◌≤◌, ◌^◌, List, map, length, drop, Some, slice_get, slice_range, All}
 use Rattle.script_lang.specs.declared.small.arena.Node.{Node}
 use Rattle.script_lang.specs.declared.small.arena.Node.TheVariants as node
 use Rattle.script_lang.specs.Pieces.{Piece, Ends, Switches, Forks, Traces, Yields, first, others, blocks, block_at}
@@ -38,4 +38,20 @@ IsWithin texts node.Yield = Unit {0}
 pub record IsSound (texts : List ℕ) (nodes : List Node) : Type 0 where
   pub few : length nodes < 2 ^ 31
   pub linked : (number : ℕ) (n : Node) → slice_get nodes number ≡ Some n → IsLinked (pieces_of texts nodes) number n
-  pub within : (number : ℕ) (n : Node) → slice_get nodes number ≡ Some n → IsWithin texts n
+  pub within : All (IsWithin texts) nodes
+
+-- how many of the blocks behind a node its own block takes in
+abbrev pub taken_in : Node → ℕ
+taken_in node.End = 0
+taken_in (node.Switch after) = 2
+taken_in (node.Fork place after) = 2
+taken_in (node.Trace start end) = 1
+taken_in node.Yield = 1
+
+-- a node with another `after`, where it has one
+abbrev pub relinked : ℕ → Node → Node
+relinked after node.End = node.End
+relinked after (node.Switch before) = node.Switch after
+relinked after (node.Fork place before) = node.Fork place after
+relinked after (node.Trace start end) = node.Trace start end
+relinked after node.Yield = node.Yield

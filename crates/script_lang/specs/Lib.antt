@@ -1,3 +1,5 @@
 pub mod Pieces
 pub mod Arena
 pub mod Statements
+pub mod Reader
+pub mod Phrases

@@ -1,5 +1,5 @@
 -- A script as pieces in reading order: its statements, and the ends of its blocks.
-use Rattle.std.specs.Prelude.{ℕ, List, [], ◌∷◌, drop}
+use Rattle.std.specs.Prelude.{ℕ, Bool, true, false, List, [], ◌∷◌, drop}
 use Rattle.first_model.specs.Script.{Switch, Fork, Trace, Yield, Block, Done, Then}
 
 -- a statement stands before its own block, if it has one, and that before the rest of the statement's block
@@ -19,15 +19,19 @@ abbrev pub others : List Block → List Block
 others [] = []
 others (block ∷ blocks) = blocks
 
--- the blocks that pieces spell, read from the back: an end is an empty block,
--- a statement goes before the block behind it, and before the second one where the first is its own
+-- a piece before the blocks behind it: an end is an empty block, a statement goes before the rest of its block,
+-- which is the second one where the first is the statement's own
+abbrev pub onto_blocks : Piece → List Block → List Block
+onto_blocks Ends bs = Done ∷ bs
+onto_blocks Switches bs = Then (Switch (first bs)) (first (others bs)) ∷ others (others bs)
+onto_blocks (Forks place) bs = Then (Fork place (first bs)) (first (others bs)) ∷ others (others bs)
+onto_blocks (Traces text) bs = Then (Trace text) (first bs) ∷ others bs
+onto_blocks Yields bs = Then Yield (first bs) ∷ others bs
+
+-- the blocks that pieces spell, read from the back
 abbrev pub blocks : List Piece → List Block
 blocks [] = []
-blocks (Ends ∷ pieces) = Done ∷ blocks pieces
-blocks (Switches ∷ pieces) = Then (Switch (first (blocks pieces))) (first (others (blocks pieces))) ∷ others (others (blocks pieces))
-blocks (Forks place ∷ pieces) = Then (Fork place (first (blocks pieces))) (first (others (blocks pieces))) ∷ others (others (blocks pieces))
-blocks (Traces text ∷ pieces) = Then (Trace text) (first (blocks pieces)) ∷ others (blocks pieces)
-blocks (Yields ∷ pieces) = Then Yield (first (blocks pieces)) ∷ others (blocks pieces)
+blocks (piece ∷ pieces) = onto_blocks piece (blocks pieces)
 
 -- the block that begins at a piece, by its number from 0
 unfoldable pub block_at : List Piece → ℕ → Block
@@ -36,3 +40,10 @@ block_at pieces number = first (blocks (drop number pieces))
 -- the block of main
 abbrev pub main_of : List Piece → Block
 main_of pieces = block_at pieces 0
+
+abbrev pub is_statement : Piece → Bool
+is_statement Ends = false
+is_statement Switches = true
+is_statement (Forks place) = true
+is_statement (Traces text) = true
+is_statement Yields = true

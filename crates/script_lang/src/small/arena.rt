@@ -3,8 +3,13 @@
 //! Invariant: a switch or a fork knows the node where the rest of its own block begins, and the text of a trace lies
 //! within the texts. The theorem is the clause `first` of [`Script::statement_at`].
 
+ghost use Rattle.std.specs.Prelude.{◌≡◌, ◌<◌, ◌^◌, ◌++◌, ◌∷◌, [], length, drop, reverse, slice_index_or, OnOk, IfOk};
 ghost use Rattle.script_lang.specs.Statements.{Begins};
+ghost use Rattle.script_lang.specs.Pieces.{Ends, Switches, Forks, Traces, Yields};
+ghost use Rattle.script_lang.specs.Reader.{statement_count};
+ghost use Rattle.script_lang.specs.Arena.{relinked, taken_in};
 
+use std::alloc::{AllocError, Global};
 use std::marker::Model;
 
 /// A statement, or the end of a block.
@@ -13,7 +18,7 @@ enum Node {
     End,
     Switch { after: u32 },
     Fork { place: u32, after: u32 },
-    Trace { start: u32, end: u32 },
+    Trace { start: usize, end: usize },
     Yield,
 }
 
@@ -71,10 +76,127 @@ impl Script {
                 after,
             }),
             Node::Trace { start, end } => Some(Statement::Trace {
-                text: &self.texts[start as usize..end as usize],
+                text: &self.texts[start..end],
                 after: number + 1,
             }),
             Node::Yield => Some(Statement::Yield { after: number + 1 }),
+        }
+    }
+}
+
+/// The pieces of a script that is being read, in reading order.
+#[derive(Drop)]
+pub struct Draft {
+    nodes: Vec<Node>,
+    texts: Vec<u8>,
+}
+
+impl Model for Draft {
+    ghost use Rattle.std.specs.Prelude.{List};
+    ghost use Rattle.script_lang.specs.Pieces.{Piece};
+
+    ghost Value = { List Piece };
+
+    ghost use Rattle.std.specs.Prelude.{All};
+    ghost use Rattle.script_lang.specs.Arena.{pieces_of, IsWithin};
+
+    ghost view = { λ d. pieces_of d.texts.items d.nodes.items };
+
+    ghost invariant = { λ d. All (IsWithin d.texts.items) d.nodes.items };
+}
+
+impl Draft {
+    pub fn new(alloc: Global) -> Draft
+        ensures { result ≡ [] }
+    {
+        Draft {
+            nodes: Vec::new(alloc),
+            texts: Vec::new(alloc),
+        }
+    }
+
+    pub fn push_end(&mut self) -> Result<(), AllocError>
+        ensures { OnOk result (self.new ≡ self.old ++ Ends ∷ []) }
+    {
+        self.nodes.push(Node::End)?;
+        Ok(())
+    }
+
+    pub fn push_switch(&mut self) -> Result<(), AllocError>
+        ensures { OnOk result (self.new ≡ self.old ++ Switches ∷ []) }
+    {
+        self.nodes.push(Node::Switch { after: 0 })?;
+        Ok(())
+    }
+
+    pub fn push_fork(&mut self, place: u32) -> Result<(), AllocError>
+        ensures { OnOk result (self.new ≡ self.old ++ Forks place ∷ []) }
+    {
+        self.nodes.push(Node::Fork { place, after: 0 })?;
+        Ok(())
+    }
+
+    pub fn push_trace(&mut self, text: &[u8]) -> Result<(), AllocError>
+        ensures { OnOk result (self.new ≡ self.old ++ Traces text.now ∷ []) }
+    {
+        let start = self.texts.len();
+        self.texts.extend_from_slice(text)?;
+        let end = self.texts.len();
+        self.nodes.push(Node::Trace { start, end })?;
+        Ok(())
+    }
+
+    pub fn push_yield(&mut self) -> Result<(), AllocError>
+        ensures { OnOk result (self.new ≡ self.old ++ Yields ∷ []) }
+    {
+        self.nodes.push(Node::Yield)?;
+        Ok(())
+    }
+
+    /// How many statements there are so far.
+    pub fn statements(&self) -> usize
+        ensures { result ≡ statement_count self.now }
+    {
+        self.nodes.iter().filter(|node| !matches!(node, Node::End)).count()
+    }
+
+    /// The script of these pieces: tells each switch and each fork where the rest of its block begins.
+    pub fn linked(self, alloc: Global) -> Result<Script, AllocError>
+        requires few { length self < 2 ^ 31 }
+        ensures { IfOk result (λ script. script ≡ self) }
+    {
+        let Draft { mut nodes, texts } = self;
+        let end = nodes.len() as u32;
+        let mut blocks: Vec<u32> = Vec::new(alloc);
+        for number in (0..nodes.len()).rev() {
+            nodes[number] = linked_node(nodes[number], &mut blocks, end);
+            blocks.push(number as u32)?;
+        }
+        Ok(Script { nodes, texts })
+    }
+}
+
+/// A node that knows where the rest of its block begins, from the beginnings of the blocks behind the node, the next
+/// one last. Those that the node's block takes in are gone; where the script breaks off, the rest is at its end.
+fn linked_node(node: Node, blocks: &mut Vec<u32>, end: u32) -> Node
+    ensures node { result ≡ relinked (slice_index_or (reverse blocks.old.items) 1 end) node }
+    ensures blocks { reverse blocks.new.items ≡ drop (taken_in node) (reverse blocks.old.items) }
+{
+    match node {
+        Node::End => node,
+        Node::Trace { .. } | Node::Yield => {
+            blocks.pop();
+            node
+        }
+        Node::Switch { .. } => {
+            blocks.pop();
+            let after = blocks.pop().unwrap_or(end);
+            Node::Switch { after }
+        }
+        Node::Fork { place, .. } => {
+            blocks.pop();
+            let after = blocks.pop().unwrap_or(end);
+            Node::Fork { place, after }
         }
     }
 }

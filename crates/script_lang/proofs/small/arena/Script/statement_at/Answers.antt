@@ -1,6 +1,6 @@
 use Rattle.std.proofs.Common.{arith, rules, ◌≤◌, length}
 use Rattle.script_lang.specs.declared.small.arena.Node.TheVariants as node
-use Rattle.script_lang.proofs.Beginnings.{is_there, block_beyond, block_at_end, block_at_switch, block_at_fork, block_at_trace, block_at_yield}
+use Rattle.script_lang.proofs.Beginnings.{is_there, within_at, block_beyond, block_at_end, block_at_switch, block_at_fork, block_at_trace, block_at_yield}
 use Rattle.script_lang.proofs.small.arena.Script.statement_at.Goals as goal
 
 pub returns-then-number-len : goal.returns-then-number-len
@@ -24,20 +24,20 @@ returns-in-Fork c =
 pub slice_bounds-result-count : goal.slice_bounds-result-count
 slice_bounds-result-count c =
     let there = is_there c.self.inside.nodes.items c.args.number c.index.result.now (node.Trace c.in-Trace.start c.in-Trace.end) (omega arith) c.index.ensures c.in-Trace.is in
-    let within = c.self.invariant.within c.args.number _ there in
+    let within = within_at c.self.inside.texts.items _ c.args.number (node.Trace c.in-Trace.start c.in-Trace.end) c.self.invariant.within there in
     within.0
 
 pub slice_bounds-result-start : goal.slice_bounds-result-start
 slice_bounds-result-start c =
     let there = is_there c.self.inside.nodes.items c.args.number c.index.result.now (node.Trace c.in-Trace.start c.in-Trace.end) (omega arith) c.index.ensures c.in-Trace.is in
-    let within = c.self.invariant.within c.args.number (node.Trace c.in-Trace.start c.in-Trace.end) there in
+    let within = within_at c.self.inside.texts.items _ c.args.number (node.Trace c.in-Trace.start c.in-Trace.end) c.self.invariant.within there in
     let fits : c.in-Trace.end ≤ length c.deref.result.now = rw c.deref.ensures.value within.1 in
     search rules
 
 pub slice_bounds-result-end : goal.slice_bounds-result-end
 slice_bounds-result-end c =
     let there = is_there c.self.inside.nodes.items c.args.number c.index.result.now (node.Trace c.in-Trace.start c.in-Trace.end) (omega arith) c.index.ensures c.in-Trace.is in
-    let within = c.self.invariant.within c.args.number (node.Trace c.in-Trace.start c.in-Trace.end) there in
+    let within = within_at c.self.inside.texts.items _ c.args.number (node.Trace c.in-Trace.start c.in-Trace.end) c.self.invariant.within there in
     let fits : c.in-Trace.end ≤ length c.deref.result.now = rw c.deref.ensures.value within.1 in
     search rules
 

@@ -1,0 +1,11 @@
+pub mod Items
+pub mod NextCall
+pub mod Detaching
+pub mod Callers
+pub mod Heads
+pub mod Yields
+pub mod Opens
+pub mod Forks
+pub mod Closes
+pub mod Ends
+pub mod Endings
