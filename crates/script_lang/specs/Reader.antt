@@ -1,9 +1,8 @@
 -- The pieces that bytes spell, read one phrase after the other, with the names in scope.
-use Rattle.std.specs.Prelude.{ℕ, zero, suc, ◌+◌, Bool, true, false, ◌&&◌, ◌==◌, nat_eq, nat_le, nat_lt, List, [], ◌∷◌, ◌++◌, length, drop, Option, Some, None, codes, count_by}
+use Rattle.std.specs.Prelude.{ℕ, zero, suc, ◌+◌, Bool, true, false, nat_eq, nat_lt, List, [], ◌∷◌, length, drop, Option, Some, None, codes, count_by}
 use Rattle.std.specs.List.{starts_with, filter_map}
-use Rattle.first_model.specs.Reading.{Former, Switching, Forking, Phrase, Opens, Says, Yields, Closes, Parsed, parsed, is_end}
+use Rattle.first_model.specs.Reading.{Switching, Forking, Phrase, Opens, Says, Yields, Closes, parsed, is_end}
 use Rattle.first_model.specs.Script.{Scope, place_of}
-use Rattle.first_model.specs.Answer.{most_bytes, most_statements}
 use Rattle.script_lang.specs.Pieces.{Piece, is_statement}
 use Rattle.script_lang.specs.Pieces as pieces
 

@@ -157,7 +157,10 @@ impl Draft {
     pub fn statements(&self) -> usize
         ensures { result ≡ statement_count self.now }
     {
-        self.nodes.iter().filter(|node| !matches!(node, Node::End)).count()
+        self.nodes
+            .iter()
+            .filter(|node| !matches!(node, Node::End))
+            .count()
     }
 
     /// The script of these pieces: tells each switch and each fork where the rest of its block begins.
