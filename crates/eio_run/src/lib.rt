@@ -4,6 +4,8 @@
 //! which status is answered, for every list of words, every source and every sink.
 #![tactic(auto)]
 
+#[cfg(test)]
+mod tests;
 mod top;
 mod words;
 

@@ -1,40 +1,42 @@
-//! The program `eio-run`: standard input, standard output and the words of the command line, handed to the top call.
+//! The program `eio-run`: the words of the command line, standard input and standard output, handed to the top call.
+//!
+//! Nothing is decided here. What is read, written and answered is said by the contract of `eio_run`; that the words and the
+//! status are passed on is shown by the stored run alone.
 #![tactic(auto)]
 
 use eio_run::eio_run;
+use eio_value::NoMemory;
 use std::process::ExitCode;
+use std::rt::Env;
 use std::{env, io};
 use trace_out::{OpenGate, Status, StdSink, StdSource};
 
-/// The words behind the program's name; `NoMemory` where they can't be kept.
-fn words_of(rt: &HostRuntime) -> Result<Vec<String>, Status> {
+/// The words behind the program's name.
+fn words_of(rt: &(impl Env + AllocGlobal)) -> Result<Vec<String>, NoMemory> {
     let mut words = Vec::new(rt.alloc());
-    let arguments = env::args(rt).map_err(|_| Status::NoMemory)?;
+    // The arguments are there: only memory can be wanting.
+    let arguments = env::args(rt).map_err(|_| NoMemory)?;
     for word in arguments.skip(1) {
-        words.push(word).map_err(|_| Status::NoMemory)?;
+        words.push(word)?;
     }
     Ok(words)
 }
 
-fn run(rt: &HostRuntime) -> Result<Status, Status> {
-    let words = words_of(rt)?;
+fn main(rt: HostRuntime) -> ExitCode {
     let mut source = StdSource {
         from: rt.reader(),
         faults: 0,
     };
     let mut sink = StdSink {
-        to: io::writer(rt),
+        to: io::writer(&rt),
         faults: 0,
     };
-    Ok(eio_run(rt, rt.alloc(), &words, &mut source, &mut sink, &OpenGate))
-}
-
-fn main(rt: HostRuntime) -> ExitCode {
-    let status = match run(&rt) {
-        Ok(status) | Err(status) => status,
+    let status = match words_of(&rt) {
+        Ok(words) => eio_run(&rt, rt.alloc(), &words, &mut source, &mut sink, &OpenGate),
+        Err(NoMemory) => Status::NoMemory,
     };
-    if let Status::Usage = status {
-        // Nothing is left to be done where standard error fails too.
+    if status == Status::Usage {
+        // Where standard error fails too, nothing is left to be done.
         let _ = eprintln!(&rt; "eio-run: usage");
     }
     ExitCode::from(status.code())
