@@ -1,15 +1,16 @@
 -- The pieces of a document are those of its script, where it is one.
-use Rattle.std.proofs.Common.{◌≡◌, ℕ, zero, suc, ◌+◌, ◌<◌, ◌≤◌, Bool, true, false, List, [], ◌∷◌, length, drop, length-drop, Option, Some, None, ◌⊎◌, inl, inr, refl, ap, sym, ◌∙◌, subst, arith}
-use Rattle.std.specs.Prelude.{codes, nat_eq, nat_lt, nat_le, option_map, if◌then◌else◌, count_by}
+use Rattle.std.proofs.Common.{◌≡◌, ℕ, ◌+◌, ◌<◌, ◌≤◌, Bool, true, false, List, [], ◌∷◌, length, drop, length-drop, Option, Some, None, ◌⊎◌, inl, inr, refl, ap, ◌∙◌, subst, arith}
+use Rattle.std.specs.Prelude.{codes, nat_eq, nat_lt, nat_le, option_map, if◌then◌else◌}
 use Rattle.std.specs.List.{starts_with}
 use Rattle.std.proofs.lemmas.List.Sums.{sum_by-cons}
+use Rattle.std.proofs.lemmas.Bool.{lt-ltb, le-ltb, lt-leb, le-leb}
 use Rattle.first_model.specs.Trees.{Tree, Trees, Nil, And}
 use Rattle.first_model.specs.Reading.{rows_in, root_of, tree_in}
-use Rattle.first_model.specs.Script.{Block, Done, Then, Switch, Fork, Trace, Yield, ◌>>=◌, block, script_of, statements, inner_statements}
+use Rattle.first_model.specs.Script.{Block, ◌>>=◌, block, script_of, statements, inner_statements}
 use Rattle.first_model.specs.Answer.{accepted, most_bytes, most_statements, if_few}
 use Rattle.script_lang.specs.Pieces.{Piece, Ends, Switches, Forks, Traces, Yields, first, others, blocks, block_at, main_of, is_statement}
 use Rattle.script_lang.specs.Reader.{pieces_in, in_main, document_pieces, statement_count}
-use Rattle.script_lang.proofs.Rows.{scopes, scripts, scripts_of, all_agree}
+use Rattle.script_lang.proofs.Rows.{scripts, scripts_of, all_agree}
 
 -- How many statements there are.
 abbrev total : List Block → ℕ
@@ -131,3 +132,25 @@ accepted-pieces bytes =
     let same = few-rows (rows_in (length bytes) 2 (drop 12 bytes)) (pieces_in (length bytes) in_main (drop 12 bytes)) (all_agree (length bytes) in_main (drop 12 bytes) short) in
     let inner = block_of-tree_of (starts_with nat_eq bytes (codes "(eio 1 (main")) _ _ same in
     ap (λ main. let answer : Option Block = elim (nat_lt most_bytes (length bytes)) [ true ↦ None | false ↦ main ] in answer) inner
+
+-- What the reader tells.
+abbrev by_size : Bool → Option Block → Option Block
+by_size too_long main = elim too_long [ true ↦ None | false ↦ main ]
+
+abbrev by_count : Bool → Block → Option Block
+by_count few main = if few then Some main else None
+
+pub too_long : (bytes : List ℕ) → most_bytes < length bytes → accepted bytes ≡ None
+too_long bytes long = accepted-pieces bytes ∙ ap (λ too_long. by_size too_long (few_pieces (document_pieces bytes))) (lt-ltb most_bytes (length bytes) long)
+
+by_pieces : (bytes : List ℕ) (ps : Option (List Piece)) → length bytes ≤ most_bytes → document_pieces bytes ≡ ps → accepted bytes ≡ few_pieces ps
+by_pieces bytes ps short same = accepted-pieces bytes ∙ (ap (λ too_long. by_size too_long (few_pieces (document_pieces bytes))) (le-ltb most_bytes (length bytes) short) ∙ ap few_pieces same)
+
+pub unread : (bytes : List ℕ) → length bytes ≤ most_bytes → document_pieces bytes ≡ None → accepted bytes ≡ None
+unread bytes short none = by_pieces bytes None short none
+
+pub too_many : (bytes : List ℕ) (ps : List Piece) → length bytes ≤ most_bytes → document_pieces bytes ≡ Some ps → most_statements < statement_count ps → accepted bytes ≡ None
+too_many bytes ps short read many = by_pieces bytes (Some ps) short read ∙ ap (λ few. by_count few (main_of ps)) (lt-leb (statement_count ps) most_statements many)
+
+pub is_accepted : (bytes : List ℕ) (ps : List Piece) → length bytes ≤ most_bytes → document_pieces bytes ≡ Some ps → statement_count ps ≤ most_statements → accepted bytes ≡ Some (main_of ps)
+is_accepted bytes ps short read few = by_pieces bytes (Some ps) short read ∙ ap (λ few. by_count few (main_of ps)) (le-leb (statement_count ps) most_statements few)

@@ -2,5 +2,8 @@ pub mod Beginnings
 pub mod Linking
 pub mod Texts
 pub mod Phrases
+pub mod Naming
+pub mod Documents
+pub mod ReaderSteps
 pub mod Rows
 pub mod Accepting

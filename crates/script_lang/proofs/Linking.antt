@@ -1,10 +1,10 @@
 -- Linking, from the last node to the first.
 -- Idea: the beginnings that are kept are those of the blocks that the nodes behind spell, so a node goes before the same ones
 -- as its piece does (`onto_blocks`), and the second of them is where the rest of its block begins.
-use Rattle.std.proofs.Common.{◌≡◌, ◌≢◌, ℕ, zero, suc, ◌+◌, ◌-◌, ◌<◌, ◌≤◌, ◌^◌, ◌⊎◌, inl, inr, List, [], ◌∷◌, ◌++◌, map, length, take, drop, set, Some, get_or, refl, ap, sym, ◌∙◌, subst, All, add-one, arith, reverse}
-use Rattle.std.specs.Prelude.{slice_get, slice_range}
+use Rattle.std.proofs.Common.{◌≡◌, ◌≢◌, ℕ, ◌+◌, ◌-◌, ◌<◌, ◌≤◌, ◌^◌, ◌⊎◌, inl, inr, List, [], ◌∷◌, ◌++◌, map, length, drop, set, Some, get_or, refl, ap, sym, ◌∙◌, subst, All, arith, reverse}
+use Rattle.std.specs.Prelude.{slice_get}
 use Rattle.std.proofs.lemmas.List.{drop-map, drop_all, length-set, get_or-set_same, get_or-set_other, reverse-append}
-use Rattle.std.proofs.lemmas.List.Elements.{All-set, All-tail, All-get_or}
+use Rattle.std.proofs.lemmas.List.Elements.{All-set}
 use Rattle.std.proofs.lemmas.Option.{slice_get-get_or, slice_get_within, get_or_from_slice_get}
 use Rattle.std.proofs.Math.Seq.{map-set_same}
 use Rattle.std.proofs.lemmas.Bool.{cases_eq}

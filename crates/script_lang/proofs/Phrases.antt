@@ -8,7 +8,7 @@ use Rattle.std.proofs.lemmas.List.Sums.{take_while-cons}
 use Rattle.std.proofs.lemmas.Slice.Eq.{bytes_eq-Decides}
 use Rattle.std.proofs.lemmas.Bool.Decides.{same_from_decides}
 use Rattle.first_model.specs.Trees.{is_plain, is_run_byte, is_word}
-use Rattle.first_model.specs.Reading.{Former, Switching, Forking, Phrase, Opens, Says, Yields, Closes, Parsed, parsed, opened, said}
+use Rattle.first_model.specs.Reading.{Former, Switching, Forking, Opens, Says, Yields, Closes, Parsed, parsed, opened, said}
 
 either : (P : Option Parsed → Type 0) (c : Bool) (x y : Option Parsed) → P x → P y → P (if c then x else y)
 either P true x y px py = px
@@ -130,7 +130,7 @@ none_fits : (v w x y z : Option Parsed) (c d e f g : Bool) → c ≡ false → d
 none_fits v w x y z c d e f g hc hd he hf hg = rw (hc, hd, he, hf, hg) refl
 
 -- The same of the code's tests.
-flip : (xs ys : List ℕ) → bytes_eq xs ys ≡ bytes_eq ys xs
+pub flip : (xs ys : List ℕ) → bytes_eq xs ys ≡ bytes_eq ys xs
 flip xs ys =
     let back = bytes_eq-Decides ys xs in
     same_from_decides {P = xs ≡ ys} _ _ (bytes_eq-Decides xs ys) (λ e. sym (back.0 e), λ e. back.1 (sym e))
@@ -186,3 +186,10 @@ pub taken_run : (p : ℕ → Bool) (bytes run : List ℕ) (n : ℕ) → n ≡ le
 taken_run p bytes run n e h =
     let same : run ≡ take_while p bytes = h ∙ (ap (λ k. take k bytes) e ∙ take_length (prefix_len p bytes) bytes) in
     ap (list_all p) same ∙ run_passes p bytes
+
+-- the head of a document
+pub started : (bytes : List ℕ) → Strips bytes (codes "(eio 1 (main") true → starts_with nat_eq bytes (codes "(eio 1 (main") ≡ true
+started bytes h = starts bytes (codes "(eio 1 (main") true h
+
+pub not_started : (bytes : List ℕ) → Strips bytes (codes "(eio 1 (main") false → starts_with nat_eq bytes (codes "(eio 1 (main") ≡ false
+not_started bytes h = starts bytes (codes "(eio 1 (main") false h

@@ -1,16 +1,15 @@
 -- The rows of trees that bytes spell, named in their scopes, are the blocks of the pieces that are read from them.
 -- Idea: both are read phrase by phrase from the same bytes; a phrase puts the same statement before the rows' blocks
 -- (`onto`, and the statement's form in its scope) as its piece puts before the blocks behind it (`onto_blocks`).
-use Rattle.std.proofs.Common.{◌≡◌, ℕ, zero, suc, ◌+◌, ◌<◌, ◌≤◌, Bool, true, false, List, [], ◌∷◌, length, drop, Option, Some, None, length-drop, lit<, refl, ap, sym, ◌∙◌, subst, add-one, arith}
-use Rattle.std.specs.Prelude.{codes, nat_lt, is_some, option_map, if◌then◌else◌}
-use Rattle.std.specs.List.{take_while}
-use Rattle.first_model.specs.Trees.{is_plain, is_run_byte, Tree, Word, Number, Text, Branch, Trees, Nil, And}
+use Rattle.std.proofs.Common.{◌≡◌, ℕ, zero, suc, ◌+◌, ◌≤◌, Bool, true, false, List, [], ◌∷◌, length, drop, Option, Some, None, refl, ap, sym, ◌∙◌, subst, add-one, arith}
+use Rattle.std.specs.Prelude.{nat_lt, is_some, option_map, if◌then◌else◌}
+use Rattle.first_model.specs.Trees.{Trees, Nil, And}
 use Rattle.first_model.specs.Reading.{Former, Switching, Forking, Phrase, Opens, Says, Yields, Closes, Parsed, parsed, open_after, onto, rows_in, is_end}
 use Rattle.first_model.specs.Script.{Statement, Switch, Fork, Trace, Yield, Block, Done, Then, Scope, place_of, ◌>>=◌, statement, form, block}
 use Rattle.script_lang.specs.Pieces.{Piece, onto_blocks, blocks, first, others}
 use Rattle.script_lang.specs.Pieces as pieces
-use Rattle.script_lang.proofs.Phrases.{parsed_cases, after_close, after_yield, after_text, after_name, text_in, name_in, LeavesAtMost, phrase_takes}
-use Rattle.script_lang.specs.Reader.{OpenLists, names, Step, in_room, switch_step, fork_step, step, put_before, pieces_in}
+use Rattle.script_lang.proofs.Phrases.{parsed_cases, text_in, name_in, LeavesAtMost, phrase_takes}
+use Rattle.script_lang.specs.Reader.{OpenLists, names, Step, switch_by, fork_by, step, put_before, pieces_in}
 
 -- the scope of each open list
 abbrev pub scopes : OpenLists → List Scope
@@ -143,15 +142,15 @@ unfolding rows_in
 rows_step most depth bytes = refl
 
 -- and the pieces, in the same form
-abbrev pieces_after : (OpenLists → List ℕ → Option (List Piece)) → List ℕ → Option Step → Option (List Piece)
+abbrev pub pieces_after : (OpenLists → List ℕ → Option (List Piece)) → List ℕ → Option Step → Option (List Piece)
 pieces_after ps rest None = None
 pieces_after ps rest (Some taken) = put_before taken.piece (ps taken.behind rest)
 
-abbrev pieces_at : (OpenLists → List ℕ → Option (List Piece)) → OpenLists → Option Parsed → Option (List Piece)
+abbrev pub pieces_at : (OpenLists → List ℕ → Option (List Piece)) → OpenLists → Option Parsed → Option (List Piece)
 pieces_at ps open_lists None = None
 pieces_at ps open_lists (Some found) = pieces_after ps found.rest (step open_lists found.phrase)
 
-pieces_step : (most : ℕ) (list : Option (List ℕ)) (open_lists : OpenLists) (bytes : List ℕ) → pieces_in (suc most) (list ∷ open_lists) bytes ≡ pieces_at (pieces_in most) (list ∷ open_lists) (parsed bytes)
+pub pieces_step : (most : ℕ) (list : Option (List ℕ)) (open_lists : OpenLists) (bytes : List ℕ) → pieces_in (suc most) (list ∷ open_lists) bytes ≡ pieces_at (pieces_in most) (list ∷ open_lists) (parsed bytes)
 unfolding pieces_in
 pieces_step most list open_lists bytes = refl
 
@@ -172,13 +171,13 @@ room false most scs phrase rest next taken agree = refl
 at_depth : (most : ℕ) (scs : List Scope) (phrase : Phrase) (rest : List ℕ) (n m : ℕ) (ps : Option (List Piece)) → n ≡ m → Agree scs (rows_with phrase (rows_in most m rest)) ps → Agree scs (rows_with phrase (rows_in most n rest)) ps
 at_depth most scs phrase rest n m ps same agree = subst (λ k. Agree scs (rows_with phrase (rows_in most k rest)) ps) (sym same) agree
 
-switch_fits : (most : ℕ) (list : Option (List ℕ)) (open_lists : OpenLists) (name rest : List ℕ) (place : Option ℕ) → place_of (names (list ∷ open_lists)) name ≡ place → length rest ≤ most → AllAgree most → Agree (scopes (list ∷ open_lists)) (rows_with (Opens Switching name) (rows_in most (suc (suc (suc (length open_lists)))) rest)) (pieces_after (pieces_in most) rest (switch_step (list ∷ open_lists) name place))
+switch_fits : (most : ℕ) (list : Option (List ℕ)) (open_lists : OpenLists) (name rest : List ℕ) (place : Option ℕ) → place_of (names (list ∷ open_lists)) name ≡ place → length rest ≤ most → AllAgree most → Agree (scopes (list ∷ open_lists)) (rows_with (Opens Switching name) (rows_in most (suc (suc (suc (length open_lists)))) rest)) (pieces_after (pieces_in most) rest (switch_by (list ∷ open_lists) name place))
 switch_fits most list open_lists name rest None new short agree =
     pairs pieces.Switches (Opens Switching name) (scopes (list ∷ open_lists)) (scopes (Some name ∷ list ∷ open_lists)) (λ rows. switches name (names (list ∷ open_lists)) (scopes open_lists) rows new) _ _ (agree (Some name ∷ list ∷ open_lists) rest short)
 switch_fits most list open_lists name rest (Some place) known short agree =
     refuses (Opens Switching name) (scopes (list ∷ open_lists)) (λ rows. twice_named name (names (list ∷ open_lists)) (scopes open_lists) rows place known) _
 
-fork_fits : (most : ℕ) (list : Option (List ℕ)) (open_lists : OpenLists) (name rest : List ℕ) (place : Option ℕ) → place_of (names (list ∷ open_lists)) name ≡ place → length rest ≤ most → AllAgree most → Agree (scopes (list ∷ open_lists)) (rows_with (Opens Forking name) (rows_in most (suc (suc (suc (length open_lists)))) rest)) (pieces_after (pieces_in most) rest (fork_step (list ∷ open_lists) place))
+fork_fits : (most : ℕ) (list : Option (List ℕ)) (open_lists : OpenLists) (name rest : List ℕ) (place : Option ℕ) → place_of (names (list ∷ open_lists)) name ≡ place → length rest ≤ most → AllAgree most → Agree (scopes (list ∷ open_lists)) (rows_with (Opens Forking name) (rows_in most (suc (suc (suc (length open_lists)))) rest)) (pieces_after (pieces_in most) rest (fork_by (list ∷ open_lists) place))
 fork_fits most list open_lists name rest None new short agree =
     refuses (Opens Forking name) (scopes (list ∷ open_lists)) (λ rows. unnamed name (names (list ∷ open_lists)) (scopes open_lists) rows new) _
 fork_fits most list open_lists name rest (Some place) known short agree =

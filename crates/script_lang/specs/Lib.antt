@@ -3,3 +3,5 @@ pub mod Arena
 pub mod Statements
 pub mod Reader
 pub mod Phrases
+pub mod Lists
+pub mod Taking

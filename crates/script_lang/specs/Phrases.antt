@@ -1,5 +1,5 @@
 -- The phrases of the code as those of the definitions.
-use Rattle.std.specs.Prelude.{ℕ, List, Option, option_map}
+use Rattle.std.specs.Prelude.{Option, option_map}
 use Rattle.first_model.specs.Reading as model
 use Rattle.script_lang.specs.declared.small.phrases.Former.{Former}
 use Rattle.script_lang.specs.declared.small.phrases.Former.TheVariants as former

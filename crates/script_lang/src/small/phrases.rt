@@ -51,10 +51,7 @@ fn is_plain(byte: u8) -> bool
 fn run_len(bytes: &[u8]) -> usize
     ensures { result ≡ length (take_while is_run_byte bytes.now) }
 {
-    bytes
-        .iter()
-        .take_while(|byte| is_run_byte(**byte))
-        .count()
+    bytes.iter().take_while(|byte| is_run_byte(**byte)).count()
 }
 
 /// The length of the longest front of plain bytes.

@@ -1,5 +1,3 @@
-use Rattle.std.proofs.Common.{◌∙◌, ap}
-use Rattle.std.specs.List.{list_all}
 use Rattle.first_model.specs.Trees.{is_run_byte}
 use Rattle.script_lang.proofs.Phrases.{taken_run}
 use Rattle.script_lang.proofs.small.phrases.parse_name.Goals as goal

@@ -1,4 +1,4 @@
-use Rattle.std.proofs.Common.{◌∙◌, ap}
+use Rattle.std.proofs.Common.{◌∙◌}
 use Rattle.script_lang.proofs.Phrases.{close_parsed, yield_parsed, text_parsed, switch_parsed, fork_parsed, none_parsed}
 use Rattle.script_lang.proofs.small.phrases.parse_phrase.Goals as goal
 

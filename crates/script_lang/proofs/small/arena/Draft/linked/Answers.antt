@@ -1,4 +1,4 @@
-use Rattle.std.proofs.Common.{◌≡◌, length, length-set, ap, sym, ◌∙◌, arith, reverse, ◌<◌, ◌^◌}
+use Rattle.std.proofs.Common.{length, length-set, ap, sym, ◌∙◌, arith, reverse, ◌<◌, ◌^◌}
 use Rattle.std.proofs.lemmas.List.{length-map}
 use Rattle.script_lang.specs.Arena.{piece_of}
 use Rattle.script_lang.proofs.Linking.{linking_begins, linking_step}

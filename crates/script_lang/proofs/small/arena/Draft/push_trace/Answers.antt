@@ -1,4 +1,4 @@
-use Rattle.std.proofs.Common.{◌≡◌, length, arith}
+use Rattle.std.proofs.Common.{arith}
 use Rattle.script_lang.proofs.Texts.{pieces-with_trace}
 use Rattle.script_lang.proofs.small.arena.Draft.push_trace.Goals as goal
 
