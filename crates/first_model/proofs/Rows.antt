@@ -1,10 +1,10 @@
 -- Worked scripts, run by the prover: from the input's bytes to what is written and how it ends.
-use Rattle.std.proofs.Common.{◌≡◌, List, [], refl}
+use Rattle.std.proofs.Common.{◌≡◌, [], refl}
 use Rattle.std.specs.Prelude.{codes}
 use Rattle.first_model.specs.Reading.{parsed, rows_in, tree_in}
 use Rattle.first_model.specs.Script.{statement, form, block, script_of, statements, inner_statements}
 use Rattle.first_model.specs.Machine.{next_call, call, move, run}
-use Rattle.first_model.specs.Answer.{Answer, accepted, answer}
+use Rattle.first_model.specs.Answer.{accepted, answer}
 use Rattle.first_model.specs.declared.Ending.TheVariants as ending
 
 empty_main : answer 1000000 (codes "(eio 1 (main))") ≡ record { text = []; ending = ending.Ok }

@@ -1,5 +1,5 @@
 -- What the command `mock` writes for an input, and how it ends.
-use Rattle.std.specs.Prelude.{ℕ, ◌+◌, Bool, true, false, nat_le, nat_lt, if◌then◌else◌, List, [], ◌∷◌, ◌++◌, length, Option, Some, None, codes, slice_get}
+use Rattle.std.specs.Prelude.{ℕ, Bool, true, false, nat_le, nat_lt, if◌then◌else◌, List, [], ◌∷◌, ◌++◌, length, Option, Some, None, codes, slice_get}
 use Rattle.std.specs.Str.{bytes_eq}
 use Rattle.first_model.specs.declared.Ending.{Ending}
 use Rattle.first_model.specs.declared.Ending.TheVariants as ending

@@ -4,3 +4,4 @@ pub mod Script
 pub mod Machine
 pub mod Answer
 pub mod Laws
+pub mod Outcome

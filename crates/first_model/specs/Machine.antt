@@ -1,6 +1,6 @@
 -- The machine of one domain: its states, its moves and its runs.
 -- A fiber runs up to its next call and makes it; that is a move. The fiber at the head of the ready list moves.
-use Rattle.std.specs.Prelude.{ℕ, zero, suc, ◌+◌, ◌-◌, Bool, true, false, ◌==◌, nat_lt, not, List, [], ◌∷◌, ◌++◌, length, drop, filter, slice_get, slice_set, slice_index, Option, Some, None, codes}
+use Rattle.std.specs.Prelude.{ℕ, zero, suc, ◌+◌, ◌-◌, Bool, true, false, ◌==◌, nat_lt, not, List, [], ◌∷◌, ◌++◌, length, drop, filter, slice_get, slice_set, slice_index, Option, Some, None}
 use Rattle.first_model.specs.Script.{Statement, Switch, Fork, Trace, Yield, Block, Done, Then}
 
 -- what a fiber has still to do: the rest of a block, or the end mark of a switch

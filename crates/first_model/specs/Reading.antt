@@ -1,6 +1,6 @@
 -- The tree that bytes spell canonically, where its statements have the shape of the forms that are read here.
 -- The bytes are `(eio 1 (main`, then the phrases of the statements and the ends of their lists, and a last LF or none.
-use Rattle.std.specs.Prelude.{ℕ, zero, suc, ◌+◌, ◌-◌, Bool, true, false, ◌&&◌, ◌==◌, nat_eq, nat_le, nat_lt, if◌then◌else◌, List, [], ◌∷◌, length, drop, take_while, pos, Option, Some, None, codes}
+use Rattle.std.specs.Prelude.{ℕ, zero, suc, ◌+◌, Bool, true, false, ◌&&◌, ◌==◌, nat_eq, nat_le, nat_lt, if◌then◌else◌, List, [], ◌∷◌, length, drop, take_while, pos, Option, Some, None, codes}
 use Rattle.std.specs.List.{starts_with}
 use Rattle.first_model.specs.Trees.{Tree, Word, Number, Text, Branch, Trees, Nil, And, is_run_byte, is_word, is_plain}
 

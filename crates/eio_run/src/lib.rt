@@ -1,0 +1,10 @@
+//! The top call of the program: from words and an input to a trace and a status.
+//!
+//! [`eio_run`] carries the headline: its clauses `usage`, `text`, `read` and `cause` say what is read, what is written and
+//! which status is answered, for every list of words, every source and every sink.
+#![tactic(auto)]
+
+mod top;
+mod words;
+
+pub use top::{STEPS, eio_run};

@@ -1,0 +1,35 @@
+//! What a run reads from, writes to and ends with: sources, sinks, gates and exit statuses.
+//!
+//! A run reaches the outside through two traits alone. A `Source` may tell which bytes are left and a
+//! `Sink` which bytes it holds, and each counts its faults, so that a contract can name what was read,
+//! what was written and which device was at fault. The devices in memory tell all and fail where they
+//! are told to; those over std's readers and writers tell nothing.
+//!
+//! The definitions that the clauses cite stand in specs/: `Causes` (faults, and fronts that were
+//! written), `Devices` (the sink in memory as a record, the numbers of calls), `Exits` (statuses).
+#![tactic(auto)]
+
+mod gate;
+mod mem_sink;
+mod mem_source;
+mod sink;
+mod source;
+mod status;
+mod std_io;
+mod writing;
+
+pub use gate::{Gate, OpenGate};
+pub use mem_sink::MemSink;
+pub use mem_source::MemSource;
+pub use sink::Sink;
+pub use source::Source;
+pub use status::Status;
+pub use std_io::{StdSink, StdSource};
+pub use writing::{WriteAll, write_all};
+
+/// A read or a write that failed. What it left is said by the clauses of the call that answers it.
+#[derive(Clone, Copy, Debug)]
+pub struct Failed;
+
+#[cfg(test)]
+mod tests;
