@@ -1,4 +1,6 @@
 -- The fiber at the head of the ready list and its call, as the code reads them from the machine.
+-- A method's clause speaks of the machine's value, its proof of the fields that were read and written;
+-- `Caller` holds what joins them, and `by_call` leaves a lemma on the fields alone, which the file of each call has.
 use Rattle.std.proofs.Common.{◌≡◌, ℕ, ◌<◌, List, [], drop, length, get_or, None, Bool, true, ap, refl, sym, ◌∙◌, subst}
 use Rattle.std.proofs.lemmas.List.{get_or_read}
 use Rattle.std.proofs.lemmas.Option.{slice_get_read}

@@ -1,8 +1,7 @@
 -- The call `switch`.
-use Rattle.std.proofs.Common.{◌≡◌, ℕ, ◌+◌, ◌<◌, ◌≤◌, List, [], ◌∷◌, ◌++◌, take, drop, length, set, reverse, slice_index, get_or, Some, Bool, true, false, refl, ap, sym, ◌∙◌, arith}
+use Rattle.std.proofs.Common.{◌≡◌, ℕ, ◌+◌, ◌<◌, ◌≤◌, List, [], ◌∷◌, ◌++◌, length, set, reverse, true, arith}
 use Rattle.std.proofs.lemmas.Grind.{common_steps}
-use Rattle.std.proofs.lemmas.List.{map-set, map_push, length-map}
-use Rattle.std.proofs.lemmas.Option.{slice_get_read}
+use Rattle.std.proofs.lemmas.List.{map-set}
 use Rattle.std.proofs.lemmas.Bool.{le-ltb, lt-ltb}
 use Rattle.first_model.specs.Machine as model
 use Rattle.first_model.specs.Machine.{State, Moved, Switched, call, quietly, limit, working, switch_at, opens_switch, forks}
@@ -10,10 +9,9 @@ use Rattle.first_model.specs.Script.{Block}
 use Rattle.script_lang.specs.Pieces.{Piece, block_at}
 use Rattle.mock_backend.specs.declared.fiber.Call.TheVariants as call
 use Rattle.mock_backend.specs.declared.fiber.Rest.{Rest}
-use Rattle.mock_backend.specs.Kept.{KeptFiber, Kept, fiber_for, works, fiber_of, state_of}
+use Rattle.mock_backend.specs.Kept.{KeptFiber, Kept, works, fiber_of, state_of}
 use Rattle.mock_backend.specs.Calls.{left_of, entering}
 use Rattle.mock_backend.specs.Switches.{open_switch}
-use Rattle.mock_backend.specs.Moves.{IsHead, switch_among}
 use Rattle.mock_backend.proofs.Callers.{Calls}
 
 past_contexts : (g : ℕ) (f : model.Fiber) (body : Block) (work : List model.Work) (s : State) → 4096 ≤ s.contexts → opens_switch g f body work s ≡ limit s

@@ -1,4 +1,4 @@
--- The calls of kept fibers.
+-- The calls of kept fibers, with the numbers of nodes in place of blocks, and what the code makes of a fiber at each.
 use Rattle.std.specs.Prelude.{◌≡◌, ℕ, List, [], ◌∷◌, ◌++◌, map, take, length, ◌-◌, Option, Some, None}
 use Rattle.first_model.specs.Machine as model
 use Rattle.first_model.specs.Machine.{Ask, Next, next_call}
@@ -16,10 +16,11 @@ abbrev pub rest_of_block : Option ℕ → List Work
 rest_of_block None = []
 rest_of_block (Some number) = work.Run number ∷ []
 
--- the work behind a call
+-- the work behind a call: so many of the lowest items, and above them the rest of the call's block
 abbrev pub left_of : Rest → List Work → List Work
 left_of rest items = take rest.below items ++ rest_of_block rest.after
 
+-- the definition's call, under a script
 abbrev pub ask_of : List Piece → Call → Ask
 ask_of pieces (call.Switch body) = model.AskSwitch (block_at pieces body)
 ask_of pieces (call.Fork place body) = model.AskFork place (block_at pieces body)

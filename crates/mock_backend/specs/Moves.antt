@@ -9,13 +9,13 @@ use Rattle.mock_backend.specs.declared.machine.Step.TheVariants.{Idle, Quiet, Tr
 use Rattle.mock_backend.specs.Kept.{KeptFiber, Kept, works, fiber_of, state_of}
 use Rattle.mock_backend.specs.Calls.{ask_of, left_of}
 
--- this fiber moves next
+-- this fiber moves next: the domain isn't halted, and it stands first in the ready list
 pub record IsHead (fiber : ℕ) (kept : Kept) : Type 0 where
   pub going : kept.halted ≡ false
   pub first : kept.ready ≡ fiber ∷ drop 1 kept.ready
   pub within : fiber < length kept.fibers
 
--- the fiber under a number
+-- the fiber under a number; one that isn't there has ended
 abbrev pub fiber_at : Kept → ℕ → KeptFiber
 fiber_at kept fiber = slice_index_or kept.fibers fiber (record { work = []; scope = []; home = None; ended = true })
 

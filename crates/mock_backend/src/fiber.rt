@@ -211,3 +211,28 @@ impl Fiber {
         Fiber::start(alloc, body, scope, Some(switch))
     }
 }
+
+#[cfg(test)]
+mod tests {
+    use super::*;
+    use std::test::Fail;
+
+    #[test]
+    fn a_fork_has_the_scope_of_its_fiber(rt: HostRuntime) -> Result<(), Fail> {
+        let alloc = rt.alloc();
+        let rest = Rest {
+            below: 0,
+            after: Some(7),
+        };
+        let mut main = Fiber::start(alloc, 0, Vec::new(alloc), None)?;
+        main.enter(4, 1, rest)?;
+        let mut forked = main.fork(alloc, 2, 4)?;
+        assert_eq!(rt; forked.switch_at(0), 4);
+        assert_eq!(rt; forked.end(), Some(4));
+        assert!(rt; forked.has_ended());
+        main.wait(4, rest)?;
+        main.leave(rest)?;
+        assert!(rt; !main.has_ended());
+        Ok(())
+    }
+}

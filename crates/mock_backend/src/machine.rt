@@ -265,3 +265,16 @@ impl Machine {
         }
     }
 }
+
+#[cfg(test)]
+mod tests {
+    use super::*;
+    use std::test::Fail;
+
+    #[test]
+    fn main_is_ready_at_first(rt: HostRuntime) -> Result<(), Fail> {
+        let machine = Machine::open(rt.alloc())?;
+        assert_eq!(rt; machine.ending(), Ending::OutOfSteps);
+        Ok(())
+    }
+}

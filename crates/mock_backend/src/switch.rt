@@ -83,3 +83,20 @@ impl Switch {
         self.finished = true;
     }
 }
+
+#[cfg(test)]
+mod tests {
+    use super::*;
+    use std::test::Fail;
+
+    #[test]
+    fn the_last_to_leave_wakes_the_closer(rt: HostRuntime) -> Result<(), Fail> {
+        let mut switch = Switch::open(rt.alloc());
+        switch.attach(1)?;
+        switch.attach(2)?;
+        switch.wait(0);
+        assert_eq!(rt; switch.detach(1), None);
+        assert_eq!(rt; switch.detach(2), Some(0));
+        Ok(())
+    }
+}

@@ -8,7 +8,7 @@ use Rattle.std.specs.List.{position, position_from, filter_map}
 use Rattle.std.specs.Str.{bytes_eq}
 use Rattle.std.specs.Option.{option_copied}
 use Rattle.std.proofs.lemmas.Iterator.Adapters.{position_from-zero}
-use Rattle.script_lang.specs.Reader.{OpenLists, names, switch_step}
+use Rattle.script_lang.specs.Reader.{OpenLists, names, switch_by}
 use Rattle.script_lang.proofs.Phrases.{flip}
 
 position_from-copied : (name : List ℕ) (i : ℕ) (lists : List (Option (Bor (List ℕ)))) → position_from (λ (known : Bor (List ℕ)). bytes_eq known.now name) i (filter_map (λ list. list) lists) ≡ position_from (bytes_eq name) i (names (map option_copied lists))
@@ -28,7 +28,7 @@ place_is lists now name found same is_found = sym (is_found ∙ (position-copied
 pub lists_of-push : (lists new : List (Option (Bor (List ℕ)))) (list : Option (Bor (List ℕ))) → new ≡ lists ++ list ∷ [] → lists_of new ≡ option_copied list ∷ lists_of lists
 lists_of-push lists new list is_new = ap lists_of is_new ∙ ap (map option_copied) (reverse-append lists (list ∷ []))
 
-pub known_refused : (lists : OpenLists) (name : List ℕ) (found : Option ℕ) (known : Bool) → known ≡ is_some found → known ≡ true → switch_step lists name found ≡ None
+pub known_refused : (lists : OpenLists) (name : List ℕ) (found : Option ℕ) (known : Bool) → known ≡ is_some found → known ≡ true → switch_by lists name found ≡ None
 known_refused lists name None known e h = cc
 known_refused lists name (Some place) known e h = refl
 

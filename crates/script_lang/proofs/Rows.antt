@@ -9,7 +9,7 @@ use Rattle.first_model.specs.Script.{Statement, Switch, Fork, Trace, Yield, Bloc
 use Rattle.script_lang.specs.Pieces.{Piece, onto_blocks, blocks, first, others}
 use Rattle.script_lang.specs.Pieces as pieces
 use Rattle.script_lang.proofs.Phrases.{parsed_cases, text_in, name_in, LeavesAtMost, phrase_takes}
-use Rattle.script_lang.specs.Reader.{OpenLists, names, Step, switch_step, fork_step, step, put_before, pieces_in}
+use Rattle.script_lang.specs.Reader.{OpenLists, names, Step, switch_by, fork_by, step, put_before, pieces_in}
 
 -- the scope of each open list
 abbrev pub scopes : OpenLists → List Scope
@@ -171,13 +171,13 @@ room false most scs phrase rest next taken agree = refl
 at_depth : (most : ℕ) (scs : List Scope) (phrase : Phrase) (rest : List ℕ) (n m : ℕ) (ps : Option (List Piece)) → n ≡ m → Agree scs (rows_with phrase (rows_in most m rest)) ps → Agree scs (rows_with phrase (rows_in most n rest)) ps
 at_depth most scs phrase rest n m ps same agree = subst (λ k. Agree scs (rows_with phrase (rows_in most k rest)) ps) (sym same) agree
 
-switch_fits : (most : ℕ) (list : Option (List ℕ)) (open_lists : OpenLists) (name rest : List ℕ) (place : Option ℕ) → place_of (names (list ∷ open_lists)) name ≡ place → length rest ≤ most → AllAgree most → Agree (scopes (list ∷ open_lists)) (rows_with (Opens Switching name) (rows_in most (suc (suc (suc (length open_lists)))) rest)) (pieces_after (pieces_in most) rest (switch_step (list ∷ open_lists) name place))
+switch_fits : (most : ℕ) (list : Option (List ℕ)) (open_lists : OpenLists) (name rest : List ℕ) (place : Option ℕ) → place_of (names (list ∷ open_lists)) name ≡ place → length rest ≤ most → AllAgree most → Agree (scopes (list ∷ open_lists)) (rows_with (Opens Switching name) (rows_in most (suc (suc (suc (length open_lists)))) rest)) (pieces_after (pieces_in most) rest (switch_by (list ∷ open_lists) name place))
 switch_fits most list open_lists name rest None new short agree =
     pairs pieces.Switches (Opens Switching name) (scopes (list ∷ open_lists)) (scopes (Some name ∷ list ∷ open_lists)) (λ rows. switches name (names (list ∷ open_lists)) (scopes open_lists) rows new) _ _ (agree (Some name ∷ list ∷ open_lists) rest short)
 switch_fits most list open_lists name rest (Some place) known short agree =
     refuses (Opens Switching name) (scopes (list ∷ open_lists)) (λ rows. twice_named name (names (list ∷ open_lists)) (scopes open_lists) rows place known) _
 
-fork_fits : (most : ℕ) (list : Option (List ℕ)) (open_lists : OpenLists) (name rest : List ℕ) (place : Option ℕ) → place_of (names (list ∷ open_lists)) name ≡ place → length rest ≤ most → AllAgree most → Agree (scopes (list ∷ open_lists)) (rows_with (Opens Forking name) (rows_in most (suc (suc (suc (length open_lists)))) rest)) (pieces_after (pieces_in most) rest (fork_step (list ∷ open_lists) place))
+fork_fits : (most : ℕ) (list : Option (List ℕ)) (open_lists : OpenLists) (name rest : List ℕ) (place : Option ℕ) → place_of (names (list ∷ open_lists)) name ≡ place → length rest ≤ most → AllAgree most → Agree (scopes (list ∷ open_lists)) (rows_with (Opens Forking name) (rows_in most (suc (suc (suc (length open_lists)))) rest)) (pieces_after (pieces_in most) rest (fork_by (list ∷ open_lists) place))
 fork_fits most list open_lists name rest None new short agree =
     refuses (Opens Forking name) (scopes (list ∷ open_lists)) (λ rows. unnamed name (names (list ∷ open_lists)) (scopes open_lists) rows new) _
 fork_fits most list open_lists name rest (Some place) known short agree =

@@ -24,21 +24,27 @@ abbrev pub in_room : OpenLists → Option Step → Option Step
 in_room open_lists step = elim (nat_lt (length open_lists + 1) 64) [ true ↦ step | false ↦ None ]
 
 -- a switch takes a name that isn't in scope
-abbrev pub switch_step : OpenLists → (name : List ℕ) → (place : Option ℕ) → Option Step
-switch_step open_lists name None = Some (record { piece = pieces.Switches; behind = Some name ∷ open_lists })
-switch_step open_lists name (Some place) = None
+abbrev pub switch_by : OpenLists → (name : List ℕ) → (place : Option ℕ) → Option Step
+switch_by open_lists name None = Some (record { piece = pieces.Switches; behind = Some name ∷ open_lists })
+switch_by open_lists name (Some place) = None
+
+abbrev pub switch_step : OpenLists → (name : List ℕ) → Option Step
+switch_step open_lists name = switch_by open_lists name (place_of (names open_lists) name)
 
 -- a fork takes one that is
-abbrev pub fork_step : OpenLists → (place : Option ℕ) → Option Step
-fork_step open_lists None = None
-fork_step open_lists (Some place) = Some (record { piece = pieces.Forks place; behind = None ∷ open_lists })
+abbrev pub fork_by : OpenLists → (place : Option ℕ) → Option Step
+fork_by open_lists None = None
+fork_by open_lists (Some place) = Some (record { piece = pieces.Forks place; behind = None ∷ open_lists })
+
+abbrev pub fork_step : OpenLists → (name : List ℕ) → Option Step
+fork_step open_lists name = fork_by open_lists (place_of (names open_lists) name)
 
 abbrev pub step : OpenLists → Phrase → Option Step
 step open_lists Closes = Some (record { piece = pieces.Ends; behind = drop 1 open_lists })
 step open_lists Yields = in_room open_lists (Some (record { piece = pieces.Yields; behind = open_lists }))
 step open_lists (Says text) = in_room open_lists (Some (record { piece = pieces.Traces text; behind = open_lists }))
-step open_lists (Opens Switching name) = in_room open_lists (switch_step open_lists name (place_of (names open_lists) name))
-step open_lists (Opens Forking name) = in_room open_lists (fork_step open_lists (place_of (names open_lists) name))
+step open_lists (Opens Switching name) = in_room open_lists (switch_step open_lists name)
+step open_lists (Opens Forking name) = in_room open_lists (fork_step open_lists name)
 
 -- the end of the root, and of the document
 abbrev pub is_root_end : List ℕ → Bool

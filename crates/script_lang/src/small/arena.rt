@@ -12,7 +12,8 @@ ghost use Rattle.script_lang.specs.Arena.{relinked, taken_in};
 use std::alloc::{AllocError, Global};
 use std::marker::Model;
 
-/// A statement, or the end of a block.
+/// A statement, or the end of a block. The rest of a switch's or a fork's block begins at the node `after`; the text of a
+/// trace is a part of the script's texts.
 #[derive(Clone, Copy)]
 enum Node {
     End,
@@ -35,7 +36,7 @@ pub enum Statement<'a> {
     Yield { after: u32 },
 }
 
-/// A script, as nodes with numbers from 0.
+/// A script, as nodes with numbers from 0; main's block begins at 0.
 #[derive(Drop)]
 pub struct Script {
     nodes: Vec<Node>,
@@ -179,8 +180,17 @@ impl Draft {
     }
 }
 
-/// A node that knows where the rest of its block begins, from the beginnings of the blocks behind the node, the next
-/// one last. Those that the node's block takes in are gone; where the script breaks off, the rest is at its end.
+/// Where the rest of a block begins, from the beginnings of the blocks behind its first statement, the next one last:
+/// the first of them is the statement's own. Where the script breaks off, the rest is at its end.
+fn pop_rest(blocks: &mut Vec<u32>, end: u32) -> u32
+    ensures rest { result ≡ slice_index_or (reverse blocks.old.items) 1 end }
+    ensures blocks { reverse blocks.new.items ≡ drop 2 (reverse blocks.old.items) }
+{
+    let _body = blocks.pop();
+    blocks.pop().unwrap_or(end)
+}
+
+/// A node that knows where the rest of its block begins. Of the blocks behind it, those that its own takes in are gone.
 fn linked_node(node: Node, blocks: &mut Vec<u32>, end: u32) -> Node
     ensures node { result ≡ relinked (slice_index_or (reverse blocks.old.items) 1 end) node }
     ensures blocks { reverse blocks.new.items ≡ drop (taken_in node) (reverse blocks.old.items) }
@@ -191,15 +201,12 @@ fn linked_node(node: Node, blocks: &mut Vec<u32>, end: u32) -> Node
             blocks.pop();
             node
         }
-        Node::Switch { .. } => {
-            blocks.pop();
-            let after = blocks.pop().unwrap_or(end);
-            Node::Switch { after }
-        }
-        Node::Fork { place, .. } => {
-            blocks.pop();
-            let after = blocks.pop().unwrap_or(end);
-            Node::Fork { place, after }
-        }
+        Node::Switch { .. } => Node::Switch {
+            after: pop_rest(blocks, end),
+        },
+        Node::Fork { place, .. } => Node::Fork {
+            place,
+            after: pop_rest(blocks, end),
+        },
     }
 }

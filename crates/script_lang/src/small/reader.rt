@@ -12,7 +12,7 @@ ghost use Rattle.script_lang.specs.Reader.{is_root_end, document_pieces};
 
 use crate::small::arena::{Draft, Script};
 use crate::small::fault::SmallFault;
-use crate::small::phrases::{Former, Parsed, Phrase, parse_phrase};
+use crate::small::phrases::{Former, Phrase, parse_phrase};
 use std::alloc::{AllocError, Global};
 
 /// The most bytes of a script.
@@ -31,7 +31,7 @@ struct Reader<'a> {
     draft: Draft,
 }
 
-/// Where a name stands among those in scope, the innermost at 0.
+/// Where a name stands among those of the lists, the innermost at 0.
 fn place_of(lists: &[Option<&[u8]>], name: &[u8]) -> Option<usize>
     ensures place { result ≡ position (λ known. bytes_eq known.now name.now) (filter_map (λ list. list) (reverse lists.now)) }
     ensures within { IfSome result (λ place. place < length lists.now) }
@@ -45,15 +45,13 @@ fn place_of(lists: &[Option<&[u8]>], name: &[u8]) -> Option<usize>
 
 impl<'a> Reader<'a> {
     ghost use Rattle.std.specs.Prelude.{◌≡◌, ◌<◌, [], length, Err, None, OnOk, IfOk};
-    ghost use Rattle.first_model.specs.Script.{place_of};
-    ghost use Rattle.script_lang.specs.Reader.{in_main, names, step, switch_step, fork_step};
+    ghost use Rattle.script_lang.specs.Reader.{in_main, step, switch_step, fork_step};
     ghost use Rattle.script_lang.specs.Phrases.{phrase_of};
-    ghost use Rattle.script_lang.specs.Lists.{lists_of};
-    ghost use Rattle.script_lang.specs.Taking.{Goes};
+    ghost use Rattle.script_lang.specs.Taking.{lists_in, Goes};
 
     /// A reader in the list of main.
     fn new(alloc: Global) -> Result<Reader<'a>, AllocError>
-        ensures lists { IfOk result (λ reader. lists_of reader.lists.items ≡ in_main) }
+        ensures lists { IfOk result (λ reader. lists_in reader ≡ in_main) }
         ensures draft { IfOk result (λ reader. reader.draft ≡ []) }
     {
         let mut lists = Vec::new(alloc);
@@ -66,8 +64,8 @@ impl<'a> Reader<'a> {
 
     /// Goes into a switch, whose name has to be new in its scope.
     fn open_switch(&mut self, name: &'a [u8]) -> Result<(), SmallFault>
-        ensures ok { OnOk result (Goes self.old self.new (switch_step (lists_of self.old.lists.items) name.entry.now (place_of (names (lists_of self.old.lists.items)) name.entry.now))) }
-        ensures refused { result ≡ Err SmallFault.Refused → switch_step (lists_of self.old.lists.items) name.entry.now (place_of (names (lists_of self.old.lists.items)) name.entry.now) ≡ None }
+        ensures ok { OnOk result (Goes self.old self.new (switch_step (lists_in self.old) name.entry.now)) }
+        ensures refused { result ≡ Err SmallFault.Refused → switch_step (lists_in self.old) name.entry.now ≡ None }
     {
         if place_of(&self.lists, name).is_some() {
             return Err(SmallFault::Refused);
@@ -80,8 +78,8 @@ impl<'a> Reader<'a> {
     /// Goes into a fork, whose name has to be in scope.
     fn open_fork(&mut self, name: &[u8]) -> Result<(), SmallFault>
         requires few { length self.old.lists.items < 64 }
-        ensures ok { OnOk result (Goes self.old self.new (fork_step (lists_of self.old.lists.items) (place_of (names (lists_of self.old.lists.items)) name.now))) }
-        ensures refused { result ≡ Err SmallFault.Refused → fork_step (lists_of self.old.lists.items) (place_of (names (lists_of self.old.lists.items)) name.now) ≡ None }
+        ensures ok { OnOk result (Goes self.old self.new (fork_step (lists_in self.old) name.now)) }
+        ensures refused { result ≡ Err SmallFault.Refused → fork_step (lists_in self.old) name.now ≡ None }
     {
         let Some(place) = place_of(&self.lists, name) else {
             return Err(SmallFault::Refused);
@@ -91,10 +89,10 @@ impl<'a> Reader<'a> {
         Ok(())
     }
 
-    /// Takes a phrase.
+    /// Takes a phrase: its piece is behind the draft, and its lists are open.
     fn take(&mut self, phrase: Phrase<'a>) -> Result<(), SmallFault>
-        ensures ok { OnOk result (Goes self.old self.new (step (lists_of self.old.lists.items) (phrase_of phrase.entry))) }
-        ensures refused { result ≡ Err SmallFault.Refused → step (lists_of self.old.lists.items) (phrase_of phrase.entry) ≡ None }
+        ensures ok { OnOk result (Goes self.old self.new (step (lists_in self.old) (phrase_of phrase.entry))) }
+        ensures refused { result ≡ Err SmallFault.Refused → step (lists_in self.old) (phrase_of phrase.entry) ≡ None }
     {
         match phrase {
             Phrase::Closes => {
