@@ -10,12 +10,12 @@ use trace_out::{MemSink, MemSource, OpenGate, Status};
 const ROOM: usize = 1_048_576;
 
 /// Words as a command line has them.
-fn words_of(alloc: Global, words: &[&str]) -> Result<Vec<String>, AllocError> {
-    let mut owned = Vec::new(alloc);
-    for word in words {
-        owned.push(String::from_str(alloc, word)?)?;
+fn words_of(alloc: Global, line: &str) -> Result<Vec<String>, AllocError> {
+    let mut words = Vec::new(alloc);
+    for word in line.split_whitespace() {
+        words.push(String::from_str(alloc, word)?)?;
     }
-    Ok(owned)
+    Ok(words)
 }
 
 /// A source of these bytes, in pieces of at most `most`, whose call of number `fails` fails.
@@ -58,7 +58,7 @@ fn worked_scripts(rt: HostRuntime) -> Result<(), Fail> {
         ("(eio 1 (main (fork s)))", "!Refused\n", Status::Refused),
         ("", "!Refused\n", Status::Refused),
     ];
-    let words = words_of(rt.alloc(), &["mock"])?;
+    let words = words_of(rt.alloc(), "mock")?;
     for (input, text, status) in rows {
         for most in [1, 7, 4096] {
             let mut source = source_of(rt.alloc(), input, most, 0)?;
@@ -84,7 +84,7 @@ fn failing_devices(rt: HostRuntime) -> Result<(), Fail> {
         (3, 4, 0, "", Status::ReadFault),
         (1, 4, 1, "", Status::ReadFault),
     ];
-    let words = words_of(rt.alloc(), &["mock"])?;
+    let words = words_of(rt.alloc(), "mock")?;
     for (source_fails, most, sink_fails, held, status) in rows {
         let script = "(eio 1 (main (trace \"abcdef\")))";
         let mut source = source_of(rt.alloc(), script, 16, source_fails)?;
@@ -103,19 +103,12 @@ fn failing_devices(rt: HostRuntime) -> Result<(), Fail> {
 
 #[test]
 fn words_without_a_meaning(rt: HostRuntime) -> Result<(), Fail> {
-    let rows = [
-        [].as_slice(),
-        ["mack"].as_slice(),
-        ["mock", "mock"].as_slice(),
-        ["mock", "--steps", "0"].as_slice(),
-        ["load"].as_slice(),
-    ];
-    for row in rows {
-        let words = words_of(rt.alloc(), row)?;
+    for line in ["", "mack", "mock mock", "mock --steps 0", "load"] {
+        let words = words_of(rt.alloc(), line)?;
         let mut source = source_of(rt.alloc(), "(eio 1 (main))", 16, 1)?;
         let mut sink = MemSink::new(rt.alloc(), ROOM, 16, Vec::new(rt.alloc()))?;
         let found = eio_run(&rt, rt.alloc(), &words, &mut source, &mut sink, &OpenGate);
-        assert_eq!(rt; found, Status::Usage);
+        assert_eq!(rt; found, Status::Usage, "{line}");
         assert_eq!(rt; (source.calls, sink.held().len()), (0, 0));
     }
     Ok(())
@@ -124,7 +117,7 @@ fn words_without_a_meaning(rt: HostRuntime) -> Result<(), Fail> {
 #[test]
 fn longer_inputs_than_are_accepted(rt: HostRuntime) -> Result<(), Fail> {
     // How many blanks there are, and how many of them are left.
-    let words = words_of(rt.alloc(), &["mock"])?;
+    let words = words_of(rt.alloc(), "mock")?;
     for (blanks, left) in [(262_144, 0), (262_145, 0), (262_150, 5)] {
         let mut source = source_of(rt.alloc(), "", 100_000, 0)?;
         source.left = vec![in rt.alloc(); b' '; blanks]?;
