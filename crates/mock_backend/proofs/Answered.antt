@@ -1,5 +1,5 @@
 -- From what was read and run to the answer to the whole input.
-use Rattle.std.proofs.Common.{◌≡◌, ℕ, ◌<◌, List, [], ◌++◌, length, Some, None, IfSome, refl, ap, sym, ◌∙◌, subst, append-nil}
+use Rattle.std.proofs.Common.{◌≡◌, ℕ, List, [], ◌++◌, Some, None, IfSome, refl, ap, sym, ◌∙◌, subst}
 use Rattle.std.specs.Prelude.{Option, Result, Ok, Err, IfOk}
 use Rattle.std.proofs.KnownBytes.{Appends-nil, Appends-trans}
 use Rattle.trace_out.proofs.Appended.{front_after, front_longer}
@@ -7,12 +7,11 @@ use Rattle.mock_backend.specs.declared.fault.RunFault.{RunFault}
 use Rattle.mock_backend.specs.Faults.{WritesText}
 use Rattle.std.specs.Io.KnownBytes.{Appends}
 use Rattle.trace_out.specs.Causes.{AppendsFront}
-use Rattle.trace_out.specs.declared.status.Status.TheVariants as status
 use Rattle.first_model.specs.declared.Ending.{Ending}
 use Rattle.first_model.specs.declared.Ending.TheVariants as ending
 use Rattle.first_model.specs.Script.{Block}
 use Rattle.first_model.specs.Machine.{run, opening}
-use Rattle.first_model.specs.Answer.{Answer, accepted, answer, answer_in, ending_in, last_line, refusal}
+use Rattle.first_model.specs.Answer.{Answer, accepted, answer, ending_in, last_line}
 use Rattle.first_model.specs.Laws.{IsOver}
 use Rattle.first_model.specs.Outcome.{ended, HasRead, ReadsFor, WritesFor, CanCome}
 use Rattle.first_model.proofs.FrontDecides.{answer_front, answer_refused, answer_runs}

@@ -1,5 +1,5 @@
 -- A run in code: what was written so far, and where the moves that are left lead.
-use Rattle.std.proofs.Common.{◌≡◌, ℕ, ◌+◌, ◌-◌, ◌<◌, ◌≤◌, List, [], ◌∷◌, ◌++◌, Some, None, refl, ap, sym, ◌∙◌, subst, arith, append-nil}
+use Rattle.std.proofs.Common.{◌≡◌, ℕ, ◌+◌, ◌-◌, ◌<◌, List, [], ◌++◌, Some, None, refl, ap, sym, ◌∙◌, subst, arith}
 use Rattle.std.specs.declared.option.Option.{Option}
 use Rattle.std.specs.Io.KnownBytes.{Appends}
 use Rattle.std.proofs.KnownBytes.{Appends-trans, Appends-nil}
@@ -9,7 +9,7 @@ use Rattle.mock_backend.specs.Faults.{WritesText}
 use Rattle.trace_out.specs.Causes.{AppendsFront}
 use Rattle.trace_out.proofs.Appended.{front_of_whole, front_after, front_longer}
 use Rattle.first_model.specs.Machine.{State, Moved, move, run}
-use Rattle.first_model.proofs.Runs.{run_none, run_idle, run_moves, BeginsWith, run_begins}
+use Rattle.first_model.proofs.Runs.{run_none, run_idle, run_moves, run_begins}
 
 -- what was written and what is left are parts of the whole run
 pub record IsPart (old now : Option (List ℕ)) (left : ℕ) (state : State) (whole : Moved) : Type 0 where
