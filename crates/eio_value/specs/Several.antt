@@ -1,0 +1,17 @@
+-- Exceptions that were raised together: their members in order of arrival, and whether others were left out.
+use Rattle.std.specs.Prelude.{◌≢◌, ℕ, ◌≤◌, Bool, List, length}
+use Rattle.std.specs.List.{AllPairs}
+use Rattle.eio_value.specs.declared.plain.Member.{Member}
+
+-- what contracts see of `Members`
+pub record Several : Type 0 where
+  pub members : List Member
+  pub cut : Bool
+
+-- another raise than the one with this number
+abbrev pub HasOther : ℕ → Member → Type 0
+HasOther serial member = member.serial ≢ serial
+
+-- no two members are the same raise
+abbrev pub AreDistinct : List Member → Type 0
+AreDistinct members = AllPairs (λ a b. a.serial ≢ b.serial) members
