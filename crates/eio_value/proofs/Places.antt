@@ -1,5 +1,5 @@
 -- One more member in the place of the first blank.
-use Rattle.std.specs.Prelude.{◌≡◌, ◌≢◌, ℕ, ◌+◌, ◌-◌, ◌<◌, List, ◌∷◌, ◌++◌, length, take, drop, replicate, slice_set, All}
+use Rattle.std.specs.Prelude.{◌≡◌, ◌≢◌, ℕ, ◌+◌, ◌-◌, ◌<◌, List, length, take, drop, replicate, slice_set, All}
 use Rattle.std.proofs.Common.{ap, subst, sym, ◌∙◌, arith}
 use Rattle.std.proofs.lemmas.List.{drop-set-lt, drop-replicate, take_more_set}
 use Rattle.std.proofs.lemmas.List.Quantifiers.{all_pairs_push}

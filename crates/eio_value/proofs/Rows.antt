@@ -1,5 +1,5 @@
 -- Worked texts, joins and tables, computed by the prover.
-use Rattle.std.proofs.Common.{◌≡◌, ℕ, List, [], ◌∷◌, ◌++◌, true, false, refl}
+use Rattle.std.proofs.Common.{◌≡◌, ℕ, List, [], ◌∷◌, true, false, refl}
 use Rattle.std.specs.Prelude.{◌+◌, Bool, codes, fold, map, pos, negsuc}
 use Rattle.std.specs.Fmt.{digits}
 use Rattle.eio_value.specs.declared.plain.Misuse.TheVariants as misuse
@@ -10,9 +10,9 @@ use Rattle.eio_value.specs.declared.plain.Member.{Member}
 use Rattle.eio_value.specs.declared.raised.Raised.{Raised}
 use Rattle.eio_value.specs.declared.raised.Raised.TheVariants.{One, Cancelled, Many}
 use Rattle.eio_value.specs.declared.value.Value.TheVariants as value
-use Rattle.eio_value.specs.Exceptions.{plain_text, raised_text, bound_text, reason}
+use Rattle.eio_value.specs.Exceptions.{raised_text, bound_text, reason}
 use Rattle.eio_value.specs.Joining.{combine}
-use Rattle.eio_value.specs.Table.{Interned, intern, text_at, text_id}
+use Rattle.eio_value.specs.Table.{intern, text_id}
 use Rattle.eio_value.specs.Values.{show, quote}
 
 texts : List (List ℕ)

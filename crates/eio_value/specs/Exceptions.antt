@@ -1,5 +1,5 @@
 -- The text of an exception, and of what is raised.
-use Rattle.std.specs.Prelude.{ℕ, if◌then◌else◌, List, [], ◌∷◌, ◌++◌, codes}
+use Rattle.std.specs.Prelude.{ℕ, if◌then◌else◌, List, ◌∷◌, ◌++◌, codes}
 use Rattle.std.specs.List.{join_by}
 use Rattle.eio_value.specs.declared.plain.Misuse.{Misuse}
 use Rattle.eio_value.specs.declared.plain.Misuse.TheVariants.{SwitchFinished, Overflow, NotNumber, NotText, Resolved, NotLocked, Closed, ContextFinished}
