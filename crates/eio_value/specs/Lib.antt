@@ -1,3 +1,7 @@
+pub mod Directory
+pub mod DirectoryCode
+pub mod EntriesFall
+pub mod EntriesInside
 pub mod Escapes
 pub mod Exceptions
 pub mod Joining

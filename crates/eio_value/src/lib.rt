@@ -12,6 +12,7 @@
 
 mod bytes;
 mod call;
+mod entry;
 mod flow_step;
 mod members;
 mod message;
@@ -22,6 +23,7 @@ mod value;
 
 pub use bytes::Bytes;
 pub use call::{Answer, Answered, Call, Struck, Woken};
+pub use entry::{Entries, Entry};
 pub use flow_step::FlowStep;
 pub use members::Members;
 pub use message::{Job, Message, Waiter};
