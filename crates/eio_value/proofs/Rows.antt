@@ -10,7 +10,7 @@ use Rattle.eio_value.specs.declared.plain.Member.{Member}
 use Rattle.eio_value.specs.declared.raised.Raised.{Raised}
 use Rattle.eio_value.specs.declared.raised.Raised.TheVariants.{One, Cancelled, Many}
 use Rattle.eio_value.specs.declared.value.Value.TheVariants as value
-use Rattle.eio_value.specs.Exceptions.{raised_text, bound_text, reason}
+use Rattle.eio_value.specs.Exceptions.{misuse_text, fault_text, plain_text, raised_text, bound_text, reason}
 use Rattle.eio_value.specs.Joining.{combine}
 use Rattle.eio_value.specs.Table.{intern, text_id}
 use Rattle.eio_value.specs.Values.{show, quote}
@@ -112,6 +112,19 @@ switch_finished = refl
 stopped : raised_text texts (cancelled 0 (failure 5)) ≡ codes "Cancelled: Failure \"stop\""
 unfolding cancelled member texts failure
 stopped = refl
+
+not_first : raised_text texts (cancelled 0 plain.NotFirst) ≡ codes "Cancelled: Not_first"
+unfolding cancelled member
+not_first = refl
+
+misuses : map misuse_text (misuse.SwitchFinished ∷ misuse.Overflow ∷ misuse.NotNumber ∷ misuse.NotText ∷ misuse.Resolved ∷ misuse.NotLocked ∷ misuse.Closed ∷ misuse.ContextFinished ∷ []) ≡ codes "Switch finished!" ∷ codes "Overflow" ∷ codes "Not a number" ∷ codes "Not a text" ∷ codes "Promise already resolved" ∷ codes "Mutex not locked" ∷ codes "Closed" ∷ codes "Cancellation context finished!" ∷ []
+misuses = refl
+
+faults : map fault_text (fault.PermissionDenied ∷ fault.NotFound ∷ fault.AlreadyExists ∷ fault.NotDirectory ∷ fault.IsDirectory ∷ fault.NotEmpty ∷ fault.TooManyLinks ∷ []) ≡ codes "Permission_denied" ∷ codes "Not_found" ∷ codes "Already_exists" ∷ codes "Not_directory" ∷ codes "Is_directory" ∷ codes "Not_empty" ∷ codes "Too_many_links" ∷ []
+faults = refl
+
+others : map (plain_text texts) (plain.EndOfFile ∷ plain.BufferLimit ∷ plain.Poisoned ∷ plain.Exit ∷ plain.NotFirst ∷ []) ≡ codes "End_of_file" ∷ codes "Buffer_limit_exceeded" ∷ codes "Poisoned" ∷ codes "Exit" ∷ codes "Not_first" ∷ []
+others = refl
 
 -- Several
 

@@ -11,8 +11,8 @@ pub record Several : Type 0 where
   pub cut : Bool
 
 -- another raise than the one with this number
-abbrev pub HasOther : ℕ → Member → Type 0
-HasOther serial member = member.serial ≢ serial
+abbrev pub HasOtherSerial : ℕ → Member → Type 0
+HasOtherSerial serial member = member.serial ≢ serial
 
 -- no two members are the same raise
 abbrev pub AreDistinct : List Member → Type 0

@@ -6,8 +6,10 @@
 //! all of these types are `Copy` and hold no memory.
 //!
 //! The definitions that speak of them stand in specs/: `Values` (the text of a value), `Exceptions`
-//! (the text of an exception), `Joining` (what two exceptions become together), `Table` (the table of
-//! texts), `Several` (exceptions that were raised together).
+//! (the text of an exception), `Escapes` (how the bytes of a text are written), `Table` (the table of
+//! texts), `Several` (exceptions that were raised together), `Joining` (what two exceptions become
+//! together), `Directory` (what stands in a scripted directory). They are run on worked rows in
+//! proofs/Rows.
 #![tactic(auto)]
 
 mod bytes;

@@ -40,7 +40,7 @@ impl Model for Members {
 }
 
 impl Members {
-    ghost use Rattle.eio_value.specs.Several.{HasOther, AreDistinct};
+    ghost use Rattle.eio_value.specs.Several.{HasOtherSerial, AreDistinct};
 
     /// These two, none left out.
     pub fn pair(first: Member, second: Member) -> Members
@@ -73,7 +73,7 @@ impl Members {
 
     /// One more where there is room for it; else it is left out.
     pub fn with(self, member: Member) -> Members
-        requires { All (HasOther member.serial) self.members }
+        requires { All (HasOtherSerial member.serial) self.members }
         ensures added { length self.members < 8 → result ≡ record { members = self.members ++ member ∷ []; cut = self.cut } }
         ensures left_out { 8 ≤ length self.members → result ≡ record { members = self.members; cut = true } }
     {
