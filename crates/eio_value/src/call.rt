@@ -33,7 +33,7 @@ pub enum Call {
     TryLock(u32),
     /// Unlocks a mutex.
     Unlock(u32),
-    /// Unlocks a mutex that nobody can lock again.
+    /// Poisons a mutex: nobody can lock it again.
     Poison(u32),
     /// Takes a resource of a pool.
     Use(u32),
@@ -55,7 +55,7 @@ pub enum Answer {
     Waits,
     /// The call would wait, but the fiber's context is cancelled.
     Off,
-    /// Nobody was woken, or no job was started.
+    /// There was nothing to do: no item to take, nobody to wake, no job to start.
     Nothing,
     /// This fiber was woken.
     Woke(Waiter),
@@ -74,20 +74,20 @@ pub struct Answered {
     pub mine: Option<Message>,
 }
 
-/// Whether a wait was ended by this call.
+/// Whether this call has woken the fiber that waits, or came too late.
 #[derive(Clone, Copy, Debug)]
 pub enum Woken {
-    /// By this call.
+    /// It has woken the fiber.
     Won,
-    /// By an earlier one.
+    /// The wait had been decided before.
     Lost,
 }
 
-/// Whether a wait was cancelled by this strike, and when.
+/// Whether this strike has cancelled a wait, and its place in the order of all calls.
 #[derive(Clone, Copy, Debug)]
 pub enum Struck {
-    /// By this strike.
+    /// The fiber no longer waits, and raises `Cancelled`.
     Won { stamp: u64 },
-    /// It was woken before.
+    /// The fiber was woken before, and keeps its answer.
     Lost { stamp: u64 },
 }

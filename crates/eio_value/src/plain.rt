@@ -26,7 +26,7 @@ pub enum Misuse {
 /// Why a path was refused.
 #[derive(Clone, Copy, Debug, PartialEq, Eq)]
 pub enum PathFault {
-    /// It leaves the directory of the capability.
+    /// It leaves the directory of the capability, or removes it.
     PermissionDenied,
     NotFound,
     AlreadyExists,
@@ -45,11 +45,11 @@ pub enum Plain {
     Invalid(Misuse),
     /// A reader has no more bytes.
     EndOfFile,
-    /// A line or a read is longer than the reader may buffer.
+    /// What was asked of a reader is longer than it may buffer.
     BufferLimit,
-    /// An exception left the block that used the mutex.
+    /// An exception left a block that had the mutex locked.
     Poisoned,
-    /// The fibers of a finished switch no longer need their daemons.
+    /// A switch has only daemons left, which it cancels.
     Exit,
     /// Another branch was first.
     NotFirst,
