@@ -1,0 +1,11 @@
+pub mod Directory
+pub mod DirectoryCode
+pub mod EntriesFall
+pub mod EntriesInside
+pub mod Escapes
+pub mod Exceptions
+pub mod Joining
+pub mod MembersInside
+pub mod Several
+pub mod Table
+pub mod Values

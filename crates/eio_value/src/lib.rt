@@ -1,7 +1,39 @@
 //! Values that every crate of the library speaks of.
+//!
+//! All of them are plain data: what a script holds (`Value`), what it raises (`Raised`), what its
+//! fibers ask of shared objects and are answered (`Call`, `Answer`), and what one domain sends to
+//! another (`Message`). Texts stand in a table and are named by their numbers (`TextId`), so nearly
+//! all of these types are `Copy` and hold no memory.
+//!
+//! The definitions that speak of them stand in specs/: `Values` (the text of a value), `Exceptions`
+//! (the text of an exception), `Escapes` (how the bytes of a text are written), `Table` (the table of
+//! texts), `Several` (exceptions that were raised together), `Joining` (what two exceptions become
+//! together), `Directory` (what stands in a scripted directory). They are run on worked rows in
+//! proofs/Rows.
 #![tactic(auto)]
 
+mod bytes;
+mod call;
+mod entry;
+mod flow_step;
+mod members;
+mod message;
+mod mock_call;
+mod plain;
+mod raised;
+mod value;
+
+pub use bytes::Bytes;
+pub use call::{Answer, Answered, Call, Struck, Woken};
+pub use entry::{Entries, Entry};
+pub use flow_step::FlowStep;
+pub use members::Members;
+pub use message::{Job, Message, Waiter};
+pub use mock_call::{Extra, MockCall, Said};
+pub use plain::{Member, Misuse, PathFault, Plain};
+pub use raised::{Outcome, Raised};
 use std::alloc::{AllocError, AllocFailed};
+pub use value::{TextId, Value};
 
 /// Memory was refused.
 ///
@@ -22,24 +54,6 @@ impl<T: Drop> From<AllocFailed<T>> for NoMemory {
     }
 }
 
-#[cfg(test)]
-mod tests {
-    use super::*;
-    use std::alloc::Global;
-    use std::test::Fail;
-
-    /// An allocation that gives the value back, and one that doesn't.
-    fn doubled(alloc: Global, x: u8) -> Result<Vec<u8>, NoMemory> {
-        let mut twice = Vec::with_capacity(alloc, 1)?;
-        twice.push(x)?;
-        twice.push(x)?;
-        Ok(twice)
-    }
-
-    #[test]
-    fn an_allocation_error_converts(rt: HostRuntime) -> Result<(), Fail> {
-        let twice = doubled(rt.alloc(), 7)?;
-        assert_eq!(rt; twice.as_slice(), [7, 7].as_slice());
-        Ok(())
-    }
-}
+/// A fixed number of places is in use, all of them.
+#[derive(Clone, Copy, Debug)]
+pub struct Full;
