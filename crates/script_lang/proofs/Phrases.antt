@@ -10,6 +10,7 @@ use Rattle.std.proofs.lemmas.Bool.Decides.{same_from_decides}
 use Rattle.first_model.specs.Trees.{is_plain, is_run_byte, is_word}
 use Rattle.first_model.specs.Reading.{Former, Switching, Forking, Opens, Says, Yields, Closes, Parsed, parsed, opened, said}
 
+-- the rule for a choice
 either : (P : Option Parsed → Type 0) (c : Bool) (x y : Option Parsed) → P x → P y → P (if c then x else y)
 either P true x y px py = px
 either P false x y px py = py

@@ -4,6 +4,7 @@ use Rattle.script_lang.specs.declared.small.arena.Node.{Node}
 use Rattle.script_lang.specs.declared.small.arena.Node.TheVariants as node
 use Rattle.script_lang.specs.Pieces.{Piece, Ends, Switches, Forks, Traces, Yields, first, others, blocks, block_at}
 
+-- a node as a piece: it keeps its place or its text
 abbrev pub piece_of : List ℕ → Node → Piece
 piece_of texts node.End = Ends
 piece_of texts (node.Switch after) = Switches
@@ -11,6 +12,7 @@ piece_of texts (node.Fork place after) = Forks place
 piece_of texts (node.Trace start end) = Traces (slice_range texts start end)
 piece_of texts node.Yield = Yields
 
+-- the pieces that nodes stand for, in the same order
 abbrev pub pieces_of : List ℕ → List Node → List Piece
 pieces_of texts nodes = map (piece_of texts) nodes
 

@@ -4,5 +4,6 @@ use Rattle.std.specs.Borrow.{Bor}
 use Rattle.std.specs.Option.{option_copied}
 use Rattle.script_lang.specs.Reader.{OpenLists}
 
+-- in reverse, each with the name that its reference points to
 abbrev pub lists_of : List (Option (Bor (List ℕ))) → OpenLists
 lists_of lists = map option_copied (reverse lists)

@@ -15,6 +15,7 @@ abbrev pub first : List Block → Block
 first [] = Done
 first (block ∷ blocks) = block
 
+-- and those behind it
 abbrev pub others : List Block → List Block
 others [] = []
 others (block ∷ blocks) = blocks
@@ -41,6 +42,7 @@ block_at pieces number = first (blocks (drop number pieces))
 abbrev pub main_of : List Piece → Block
 main_of pieces = block_at pieces 0
 
+-- each piece but an end is a statement
 abbrev pub is_statement : Piece → Bool
 is_statement Ends = false
 is_statement Switches = true

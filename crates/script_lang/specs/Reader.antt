@@ -28,6 +28,7 @@ abbrev pub switch_by : OpenLists → (name : List ℕ) → (place : Option ℕ) 
 switch_by open_lists name None = Some (record { piece = pieces.Switches; behind = Some name ∷ open_lists })
 switch_by open_lists name (Some place) = None
 
+-- by where the name stands
 abbrev pub switch_step : OpenLists → (name : List ℕ) → Option Step
 switch_step open_lists name = switch_by open_lists name (place_of (names open_lists) name)
 
@@ -39,6 +40,7 @@ fork_by open_lists (Some place) = Some (record { piece = pieces.Forks place; beh
 abbrev pub fork_step : OpenLists → (name : List ℕ) → Option Step
 fork_step open_lists name = fork_by open_lists (place_of (names open_lists) name)
 
+-- an end closes the innermost list; a statement stands for its own piece, where there is room
 abbrev pub step : OpenLists → Phrase → Option Step
 step open_lists Closes = Some (record { piece = pieces.Ends; behind = drop 1 open_lists })
 step open_lists Yields = in_room open_lists (Some (record { piece = pieces.Yields; behind = open_lists }))
@@ -74,5 +76,6 @@ unfoldable pub document_pieces : List ℕ → Option (List Piece)
 document_pieces bytes =
     elim (starts_with nat_eq bytes (codes "(eio 1 (main")) [ false ↦ None | true ↦ pieces_in (length bytes) in_main (drop 12 bytes) ]
 
+-- how many statements there are
 abbrev pub statement_count : List Piece → ℕ
 statement_count ps = count_by is_statement ps

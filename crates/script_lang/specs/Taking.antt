@@ -4,6 +4,7 @@ use Rattle.script_lang.specs.Reader.{OpenLists, Step}
 use Rattle.script_lang.specs.Lists.{lists_of}
 use Rattle.script_lang.specs.declared.small.reader.Reader.{Reader}
 
+-- the lists that are open in a reader
 abbrev pub lists_in : Reader → OpenLists
 lists_in reader = lists_of reader.lists.items
 

@@ -1,7 +1,8 @@
 //! A script as an arena: a node for each statement and one for the end of each block, in reading order.
 //!
 //! Invariant: a switch or a fork knows the node where the rest of its own block begins, and the text of a trace lies
-//! within the texts. The theorem is the clause `first` of [`Script::statement_at`].
+//! within the texts. The theorem is the clause `first` of [`Script::statement_at`]; that a script keeps what was read is
+//! the clause of [`Draft::linked`].
 
 ghost use Rattle.std.specs.Prelude.{◌≡◌, ◌<◌, ◌^◌, ◌++◌, ◌∷◌, [], length, drop, reverse, slice_index_or, OnOk, IfOk};
 ghost use Rattle.script_lang.specs.Statements.{Begins};

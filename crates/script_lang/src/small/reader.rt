@@ -1,4 +1,4 @@
-//! Reading: one phrase after the other, with the lists that are open. The theorem is the clauses of [`read_draft`].
+//! Reading: one phrase after the other, with the lists that are open. The theorem is the clauses of [`read_small`].
 //!
 //! Invariant of the loop: the draft's pieces, and those that the rest of the bytes spell in the lists that are open, are
 //! the pieces of the document.
