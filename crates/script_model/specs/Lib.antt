@@ -1,0 +1,6 @@
+pub mod Trees
+pub mod Syntax
+pub mod Forms
+pub mod Scopes
+pub mod Operands
+pub mod Statements
