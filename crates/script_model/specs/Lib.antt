@@ -4,3 +4,5 @@ pub mod Forms
 pub mod Scopes
 pub mod Operands
 pub mod Statements
+pub mod Declarations
+pub mod Scripts
