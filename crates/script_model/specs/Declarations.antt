@@ -2,11 +2,13 @@
 use Rattle.std.specs.Prelude.{ℕ, ◌+◌, Bool, true, false, ◌&&◌, ◌||◌, ◌==◌, nat_le, nat_lt, not, if◌then◌else◌, List, [], ◌∷◌, ◌++◌, length, ℤ, pos, negsuc, Option, Some, None, is_some, Result, Ok, Err, codes}
 use Rattle.std.specs.List.{list_all, list_any}
 use Rattle.std.specs.Str.{bytes_eq}
-use Rattle.script_model.specs.Trees.{Tree, Word, Number, Text, Branch, Trees, Nil, And}
+use Rattle.script_model.specs.Trees.{Tree, Word, Number, Text, Branch, Trees, Nil, And, place_of}
 use Rattle.script_model.specs.declared.Feature.{Feature}
 use Rattle.script_model.specs.declared.Feature.TheVariants as feature
 use Rattle.script_model.specs.Forms.{count}
-use Rattle.script_model.specs.Scopes.{ScriptFault, Shape, Size, Twice, place, ◌>>=◌, ObjectKind, StreamKind, PromiseKind, SemaphoreKind, MutexKind, PoolKind, ExecutorKind, FlowKind, DirectoryKind, DeclaredName, declared_in}
+use Rattle.script_model.specs.Faults.{ScriptFault, Shape, Size, Twice}
+use Rattle.script_model.specs.Results.{◌>>=◌}
+use Rattle.script_model.specs.Scopes.{ObjectKind, StreamKind, PromiseKind, SemaphoreKind, MutexKind, PoolKind, ExecutorKind, FlowKind, DirectoryKind, DeclaredName, declared_in}
 use Rattle.script_model.specs.Operands.{Made, Reads, with_form, interned, text_of, number_of}
 
 -- one step of a flow: data, a fault with its text, or a pause
@@ -89,7 +91,7 @@ workers bodies n Nil = Ok []
 workers bodies n (And (Number at (pos body)) row) =
     elim (nat_lt n most_workers && nat_lt body bodies) [ false ↦ Err (Size at) | true ↦ (workers bodies (n + 1) row >>= λ others. Ok (body ∷ others)) ]
 workers bodies n (And (Number at (negsuc z)) row) = Err (Size at)
-workers bodies n (And tree row) = Err (Shape (place tree))
+workers bodies n (And tree row) = Err (Shape (place_of tree))
 
 abbrev pub most_steps : ℕ
 most_steps = 1024
@@ -97,7 +99,7 @@ most_steps = 1024
 abbrev pub data_of : Tree → Made → Reads Step
 data_of (Text at []) made = Err (Shape at)
 data_of (Text at (b ∷ bytes)) made = Ok (Data (b ∷ bytes), (interned (b ∷ bytes) made).1)
-data_of tree made = Err (Shape (place tree))
+data_of tree made = Err (Shape (place_of tree))
 
 -- a step by its list
 abbrev pub step_by : ℕ → (full : Bool) → Trees → Made → Reads Step
@@ -115,7 +117,7 @@ step_by at full row made = Err (Shape at)
 
 abbrev pub step_of : (full : Bool) → Tree → Made → Reads Step
 step_of full (Branch at row) made = step_by at full row made
-step_of full tree made = Err (Shape (place tree))
+step_of full tree made = Err (Shape (place_of tree))
 
 -- the steps of a flow, of which n of this and other flows came before
 unfoldable pub steps_of : ℕ → Trees → Made → Reads (List Step)
@@ -153,11 +155,11 @@ pub record Listed : Type 0 where
 abbrev pub entry_name : List (List ℕ) → Tree → Result (List ℕ) ScriptFault
 entry_name before (Text at name) =
     elim (is_entry_name name) [ false ↦ Err (Shape at) | true ↦ elim (list_any (bytes_eq name) before) [ true ↦ Err (Twice at) | false ↦ Ok name ] ]
-entry_name before tree = Err (Shape (place tree))
+entry_name before tree = Err (Shape (place_of tree))
 
 abbrev pub content_of : Tree → Result (List ℕ) ScriptFault
 content_of (Text at text) = Ok text
-content_of tree = Err (Shape (place tree))
+content_of tree = Err (Shape (place_of tree))
 
 abbrev pub fits_entry : EntryHead → ℕ → Bool
 fits_entry FileHead n = n == 2
@@ -193,7 +195,7 @@ unfoldable mutual
         | false ↦ Err (Shape at)
         | true ↦ elim (nat_le most_entries n) [ true ↦ Err (Size at) | false ↦ entry_by before (n + 1) (entry_in_front row) row made ]
       ]
-  entry_of before n tree made = Err (Shape (place tree))
+  entry_of before n tree made = Err (Shape (place_of tree))
 
   entry_by : List (List ℕ) → ℕ → EntryHead → Trees → Made → Reads EntryRead
   entry_by before n FileHead (And head (And name (And content Nil))) made =
@@ -244,7 +246,7 @@ declare bodies so_far form (And (Word at name) row) made =
             counted = d.0.1
           }, d.1))
     ]
-declare bodies so_far form (And tree row) made = Err (Shape (place tree))
+declare bodies so_far form (And tree row) made = Err (Shape (place_of tree))
 declare bodies so_far form Nil made = Err (Shape 0)
 
 abbrev pub declaration_by : (bodies at : ℕ) → Declaring → Trees → Option DeclarationForm → Made → Reads Declaring
@@ -265,4 +267,4 @@ declaration_in_front row = None
 -- one more declaration
 unfoldable pub declaration : (bodies : ℕ) → Declaring → Tree → Made → Reads Declaring
 declaration bodies so_far (Branch at row) made = declaration_by bodies at so_far (behind row) (declaration_in_front row) made
-declaration bodies so_far tree made = Err (Shape (place tree))
+declaration bodies so_far tree made = Err (Shape (place_of tree))

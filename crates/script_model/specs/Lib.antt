@@ -1,4 +1,15 @@
+pub mod Bytes
+pub mod Limits
+pub mod Results
+pub mod Features
 pub mod Trees
+pub mod Faults
+pub mod Spelling
+pub mod Reading
+pub mod Canonical
+pub mod Words
+pub mod Generator
+pub mod Refusals
 pub mod Syntax
 pub mod Forms
 pub mod Scopes

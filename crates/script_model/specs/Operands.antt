@@ -2,14 +2,16 @@
 use Rattle.std.specs.Prelude.{ℕ, zero, suc, ◌+◌, Bool, true, false, ◌&&◌, ◌||◌, ◌==◌, nat_le, nat_lt, if◌then◌else◌, List, [], ◌∷◌, ◌++◌, length, ℤ, pos, negsuc, Option, Some, None, is_some, Result, Ok, Err}
 use Rattle.std.specs.List.{position_from, list_any}
 use Rattle.std.specs.Str.{bytes_eq}
-use Rattle.script_model.specs.Trees.{Tree, Word, Number, Text, Branch, Trees, Nil, And}
+use Rattle.script_model.specs.Trees.{Tree, Word, Number, Text, Branch, Trees, Nil, And, place_of}
 use Rattle.script_model.specs.declared.Feature.{Feature}
 use Rattle.script_model.specs.declared.Feature.TheVariants as feature
 use Rattle.script_model.specs.Syntax as syntax
 use Rattle.script_model.specs.Syntax.{Expression, Expressions, Statement, Statements, Block, Blocks, NoExpressions, AndExpression, Begins, Done, Then, NoBlocks, AndBlock, Directory}
 use Rattle.script_model.specs.Forms as forms
 use Rattle.script_model.specs.Forms.{Head, Form, Operation, form_of, operation_of, fits, count}
-use Rattle.script_model.specs.Scopes.{ScriptFault, Shape, Size, Twice, Name, place, ◌>>=◌, Kind, VariableKind, ContextKind, SwitchKind, ReaderKind, WriterKind, CapabilityKind, ObjectKind, StreamKind, PromiseKind, SemaphoreKind, MutexKind, PoolKind, ExecutorKind, FlowKind, DirectoryKind, Named, Scope, named_in, bring, slot_of, object_of, directory_of, is_variable, same_kind}
+use Rattle.script_model.specs.Faults.{ScriptFault, Shape, Size, Twice, Name}
+use Rattle.script_model.specs.Results.{◌>>=◌}
+use Rattle.script_model.specs.Scopes.{Kind, VariableKind, ContextKind, SwitchKind, ReaderKind, WriterKind, CapabilityKind, ObjectKind, StreamKind, PromiseKind, SemaphoreKind, MutexKind, PoolKind, ExecutorKind, FlowKind, DirectoryKind, Named, Scope, named_in, bring, slot_of, object_of, directory_of, is_variable, same_kind}
 
 -- a form that was read: its place, the feature that brings it, and whether it is for the mocked domain alone
 pub record Formed : Type 0 where
@@ -51,17 +53,17 @@ failure text made = let found = interned text made in (found.0, record found.1 {
 -- a text operand
 abbrev pub text_of : Tree → Made → Reads ℕ
 text_of (Text at text) made = Ok (interned text made)
-text_of tree made = Err (Shape (place tree))
+text_of tree made = Err (Shape (place_of tree))
 
 abbrev pub failure_of : Tree → Made → Reads ℕ
 failure_of (Text at text) made = Ok (failure text made)
-failure_of tree made = Err (Shape (place tree))
+failure_of tree made = Err (Shape (place_of tree))
 
 -- a number operand within limits
 abbrev pub number_of : (least most : ℕ) → Tree → Result ℕ ScriptFault
 number_of least most (Number at (pos n)) = if nat_le least n && nat_le n most then Ok n else Err (Size at)
 number_of least most (Number at (negsuc n)) = Err (Size at)
-number_of least most tree = Err (Shape (place tree))
+number_of least most tree = Err (Shape (place_of tree))
 
 -- one item more than there may be is refused once its own shape fits
 abbrev pub unless_many : {A : Type 0} → Bool → ℕ → Reads A → Reads A
@@ -98,7 +100,7 @@ unfoldable mutual
   -- an operation on its operands
   pub operated : Scope → forms.Operator → Trees → Made → Reads Expression
   operated scope operator Nil made = Ok (syntax.UnitValue, made)
-  operated scope operator (And a Nil) made = Err (Shape (place a))
+  operated scope operator (And a Nil) made = Err (Shape (place_of a))
   operated scope operator (And a (And b row)) made =
       expression scope false a made >>= λ x. expression scope false b x.1 >>= λ y. Ok (operation_on operator x.0 y.0, y.1)
 
@@ -133,11 +135,11 @@ captures scope found (And (Word at name) row) =
         | false ↦ (captured_by at (named_in scope.names name) >>= λ slot. captures scope (record { names = found.names ++ name ∷ []; slots = found.slots ++ slot ∷ [] }) row)
       ]
     ]
-captures scope found (And tree row) = Err (Shape (place tree))
+captures scope found (And tree row) = Err (Shape (place_of tree))
 
 abbrev pub captured_of : Scope → Tree → Result Captured ScriptFault
 captured_of scope (Branch at row) = captures scope (record { names = []; slots = [] }) row
-captured_of scope tree = Err (Shape (place tree))
+captured_of scope tree = Err (Shape (place_of tree))
 
 -- the variables of a job: those that it took, in order, from slot 0 on
 abbrev pub job_names : ℕ → List (List ℕ) → List Named

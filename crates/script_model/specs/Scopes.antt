@@ -3,26 +3,10 @@
 -- name that is there already is refused as Twice. No more than 64 names are in scope besides those of declarations.
 use Rattle.std.specs.Prelude.{ℕ, ◌+◌, Bool, true, false, ◌||◌, nat_le, not, List, [], ◌∷◌, length, filter, Option, Some, None, is_some, Result, Ok, Err}
 use Rattle.std.specs.Str.{bytes_eq}
-use Rattle.script_model.specs.Trees.{Tree, Word, Number, Text, Branch}
+use Rattle.script_model.specs.Trees.{Tree, Word, Number, Text, Branch, place_of}
+use Rattle.script_model.specs.Faults.{ScriptFault, Shape, Size, Twice, Name}
+use Rattle.script_model.specs.Results.{◌>>=◌}
 use Rattle.script_model.specs.Syntax.{Directory, Declared, Opened}
-
--- why a tree is no script, with the place of the refused node
-pub data ScriptFault : Type 0 where
-  Shape : (at : ℕ) → ScriptFault
-  Size : (at : ℕ) → ScriptFault
-  Twice : (at : ℕ) → ScriptFault
-  Name : (at : ℕ) → ScriptFault
-
-abbrev pub place : Tree → ℕ
-place (Word at word) = at
-place (Number at z) = at
-place (Text at text) = at
-place (Branch at row) = at
-
-infixl 10 ◌>>=◌
-abbrev pub ◌>>=◌ : {A B E : Type 0} → Result A E → (A → Result B E) → Result B E
-(Ok x) >>= f = f x
-(Err e) >>= f = Err e
 
 -- what a name of a block stands for
 pub data Kind : Type 0 where
@@ -113,7 +97,7 @@ bring kind scope (Word at name) =
         | false ↦ elim (is_some found || is_some (declared_in scope.declared name)) [ true ↦ Err (Twice at) | false ↦ Ok (with_name kind name scope) ]
       ]
     ]
-bring kind scope tree = Err (Shape (place tree))
+bring kind scope tree = Err (Shape (place_of tree))
 
 abbrev pub slot_by : Kind → ℕ → Option Named → Result ℕ ScriptFault
 slot_by kind at None = Err (Name at)
@@ -122,7 +106,7 @@ slot_by kind at (Some n) = elim (same_kind n.kind kind) [ true ↦ Ok n.slot | f
 -- the slot of a name of this kind in scope
 unfoldable pub slot_of : Kind → Scope → Tree → Result ℕ ScriptFault
 slot_of kind scope (Word at name) = slot_by kind at (named_in scope.names name)
-slot_of kind scope tree = Err (Shape (place tree))
+slot_of kind scope tree = Err (Shape (place_of tree))
 
 abbrev pub object_by : ObjectKind → ℕ → Option DeclaredName → Result ℕ ScriptFault
 object_by kind at None = Err (Name at)
@@ -131,7 +115,7 @@ object_by kind at (Some d) = elim (same_object d.kind kind) [ true ↦ Ok d.numb
 -- the number of a declaration of this kind
 unfoldable pub object_of : ObjectKind → Scope → Tree → Result ℕ ScriptFault
 object_of kind scope (Word at name) = object_by kind at (declared_in scope.declared name)
-object_of kind scope tree = Err (Shape (place tree))
+object_of kind scope tree = Err (Shape (place_of tree))
 
 abbrev pub directory_by : Scope → ℕ → List ℕ → Option Named → Result Directory ScriptFault
 directory_by scope at name (Some n) = elim (same_kind n.kind CapabilityKind) [ true ↦ Ok (Opened n.slot) | false ↦ Err (Name at) ]
@@ -140,4 +124,4 @@ directory_by scope at name None = object_by DirectoryKind at (declared_in scope.
 -- a capability in scope, or a declared directory
 unfoldable pub directory_of : Scope → Tree → Result Directory ScriptFault
 directory_of scope (Word at name) = directory_by scope at name (named_in scope.names name)
-directory_of scope tree = Err (Shape (place tree))
+directory_of scope tree = Err (Shape (place_of tree))

@@ -1,8 +1,10 @@
 -- The script that a tree stands for: `(eio 1 DECLARATION* (main STATEMENT*) (domain STATEMENT*)*)`, or its first refused node.
 use Rattle.std.specs.Prelude.{ℕ, ◌+◌, Bool, true, false, ◌&&◌, ◌==◌, nat_le, List, [], ◌∷◌, ◌++◌, length, ℤ, pos, negsuc, Option, Some, None, Result, Ok, Err, codes}
-use Rattle.script_model.specs.Trees.{Tree, Word, Number, Text, Branch, Trees, Nil, And}
+use Rattle.script_model.specs.Trees.{Tree, Word, Number, Text, Branch, Trees, Nil, And, place_of}
 use Rattle.script_model.specs.Syntax.{Block, Begins}
-use Rattle.script_model.specs.Scopes.{ScriptFault, Shape, Size, place, ◌>>=◌, Scope}
+use Rattle.script_model.specs.Faults.{ScriptFault, Shape, Size}
+use Rattle.script_model.specs.Results.{◌>>=◌}
+use Rattle.script_model.specs.Scopes.{Scope}
 use Rattle.script_model.specs.Operands.{Made, Reads, Formed}
 use Rattle.script_model.specs.Statements.{statements, begun}
 use Rattle.script_model.specs.Declarations.{Declaration, Declaring, declaration, is_headed, behind}
@@ -51,23 +53,23 @@ body_scope declared = record { names = []; next = 0; declared = declared.scope }
 
 abbrev pub body_of : Declaring → Tree → Made → Reads Block
 body_of declared (Branch at row) made = begun made (statements (body_scope declared) (behind row) made)
-body_of declared tree made = Err (Shape (place tree))
+body_of declared tree made = Err (Shape (place_of tree))
 
 -- the bodies behind main, of which n came before with it
 unfoldable pub domains : Declaring → ℕ → Trees → Made → Reads (List Block)
 domains declared n Nil made = Ok ([], made)
 domains declared n (And tree row) made =
     elim (is_list_of (codes "domain") tree) [
-      | false ↦ Err (Shape (place tree))
+      | false ↦ Err (Shape (place_of tree))
       | true ↦ elim (nat_le most_bodies n) [
-        | true ↦ Err (Size (place tree))
+        | true ↦ Err (Size (place_of tree))
         | false ↦ (body_of declared tree made >>= λ b. domains declared (n + 1) row b.1 >>= λ bs. Ok (b.0 ∷ bs.0, bs.1))
       ]
     ]
 
 abbrev pub first_place : Trees → Option ℕ
 first_place Nil = None
-first_place (And tree row) = Some (place tree)
+first_place (And tree row) = Some (place_of tree)
 
 abbrev pub script_by : Declaring → Trees → List Block × Made → Script
 script_by declared domain_lists read = record {
@@ -104,7 +106,7 @@ root_of at row = Err (Shape at)
 
 unfoldable pub script_of : Tree → Result Script ScriptFault
 script_of (Branch at row) = elim (is_headed (codes "eio") row) [ false ↦ Err (Shape at) | true ↦ root_of at (behind row) ]
-script_of tree = Err (Shape (place tree))
+script_of tree = Err (Shape (place_of tree))
 
 -- the place of the first form that is for the mocked domain alone
 abbrev pub first_mocked : List Formed → Option ℕ

@@ -1,12 +1,14 @@
 -- The statements that trees stand for, or the first refused node in reading order: a list before its items, and of one node
 -- first Shape, then Size, then Twice, then Name.
 use Rattle.std.specs.Prelude.{ℕ, ◌+◌, Bool, true, false, ◌&&◌, nat_le, List, Option, Some, None, Result, Ok, Err}
-use Rattle.script_model.specs.Trees.{Tree, Word, Number, Text, Branch, Trees, Nil, And}
+use Rattle.script_model.specs.Trees.{Tree, Word, Number, Text, Branch, Trees, Nil, And, place_of}
 use Rattle.script_model.specs.Syntax as syntax
 use Rattle.script_model.specs.Syntax.{Expression, Statement, Statements, Block, Blocks, Begins, Done, Then, NoBlocks, AndBlock}
 use Rattle.script_model.specs.Forms as forms
 use Rattle.script_model.specs.Forms.{Head, Form, form_of, fits, count}
-use Rattle.script_model.specs.Scopes.{ScriptFault, Shape, Size, place, ◌>>=◌, VariableKind, ContextKind, SwitchKind, ReaderKind, WriterKind, CapabilityKind, StreamKind, PromiseKind, SemaphoreKind, MutexKind, PoolKind, ExecutorKind, FlowKind, Scope, bring, slot_of, object_of, directory_of}
+use Rattle.script_model.specs.Faults.{ScriptFault, Shape, Size}
+use Rattle.script_model.specs.Results.{◌>>=◌}
+use Rattle.script_model.specs.Scopes.{VariableKind, ContextKind, SwitchKind, ReaderKind, WriterKind, CapabilityKind, StreamKind, PromiseKind, SemaphoreKind, MutexKind, PoolKind, ExecutorKind, FlowKind, Scope, bring, slot_of, object_of, directory_of}
 use Rattle.script_model.specs.Operands.{Made, Reads, one_node, with_form, text_of, failure_of, number_of, expression, expressions, captured_of, job_scope, feature_of, most_branches}
 
 -- a statement, and the scope behind it
@@ -54,7 +56,7 @@ unfoldable mutual
         | None ↦ Err (Shape at)
         | Some f ↦ elim (fits f (count (behind_front row))) [ false ↦ Err (Shape at) | true ↦ form scope last at f.head row (begun_form at f row made) ]
       ]
-  statement scope last tree made = Err (Shape (place tree))
+  statement scope last tree made = Err (Shape (place_of tree))
 
   -- what a `let` binds: a form that gives a value, or an expression
   value : Scope → Tree → Made → Reads Statement
@@ -75,7 +77,7 @@ unfoldable mutual
   -- an item that is a block
   block : Scope → (many : Bool) → Tree → Made → Reads Block
   block scope many (Branch at row) made = elim many [ true ↦ Err (Size at) | false ↦ begun made (statements scope row made) ]
-  block scope many tree made = Err (Shape (place tree))
+  block scope many tree made = Err (Shape (place_of tree))
 
   -- branches, of which n came before
   branches : Scope → ℕ → Trees → Made → Reads Blocks
