@@ -1,0 +1,7 @@
+pub mod Escapes
+pub mod Exceptions
+pub mod Joining
+pub mod MembersInside
+pub mod Several
+pub mod Table
+pub mod Values

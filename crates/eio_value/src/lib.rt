@@ -1,7 +1,35 @@
 //! Values that every crate of the library speaks of.
+//!
+//! All of them are plain data: what a script holds (`Value`), what it raises (`Raised`), what its
+//! fibers ask of shared objects and are answered (`Call`, `Answer`), and what one domain sends to
+//! another (`Message`). Texts stand in a table and are named by their numbers (`TextId`), so nearly
+//! all of these types are `Copy` and hold no memory.
+//!
+//! The definitions that speak of them stand in specs/: `Values` (the text of a value), `Exceptions`
+//! (the text of an exception), `Joining` (what two exceptions become together), `Table` (the table of
+//! texts), `Several` (exceptions that were raised together).
 #![tactic(auto)]
 
+mod bytes;
+mod call;
+mod flow_step;
+mod members;
+mod message;
+mod mock_call;
+mod plain;
+mod raised;
+mod value;
+
+pub use bytes::Bytes;
+pub use call::{Answer, Answered, Call, Struck, Woken};
+pub use flow_step::FlowStep;
+pub use members::Members;
+pub use message::{Job, Message, Waiter};
+pub use mock_call::{Extra, MockCall, Said};
+pub use plain::{Member, Misuse, PathFault, Plain};
+pub use raised::{Outcome, Raised};
 use std::alloc::{AllocError, AllocFailed};
+pub use value::{TextId, Value};
 
 /// Memory was refused.
 ///
@@ -21,3 +49,7 @@ impl<T: Drop> From<AllocFailed<T>> for NoMemory {
         NoMemory
     }
 }
+
+/// A fixed number of places is in use, all of them.
+#[derive(Clone, Copy, Debug)]
+pub struct Full;

@@ -1,0 +1,23 @@
+-- Exceptions that were raised together: their members in order of arrival, and whether others were left out.
+use Rattle.std.specs.Prelude.{◌≢◌, ℕ, Bool, List, [], ◌∷◌}
+use Rattle.std.specs.List.{AllPairs}
+use Rattle.eio_value.specs.declared.plain.Member.{Member}
+use Rattle.eio_value.specs.declared.plain.Plain.{Plain}
+use Rattle.eio_value.specs.declared.plain.Plain.TheVariants.{Exit}
+
+-- what contracts see of `Members`
+pub record Several : Type 0 where
+  pub members : List Member
+  pub cut : Bool
+
+-- another raise than the one with this number
+abbrev pub HasOther : ℕ → Member → Type 0
+HasOther serial member = member.serial ≢ serial
+
+-- no two members are the same raise
+abbrev pub AreDistinct : List Member → Type 0
+AreDistinct members = AllPairs (λ a b. a.serial ≢ b.serial) members
+
+-- what the first of them is; `Exit` where there is none, which `Members` never is
+abbrev pub first_what : Several → Plain
+first_what several = elim several.members [ [] ↦ Exit | member ∷ members ↦ member.what ]
