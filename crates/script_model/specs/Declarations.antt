@@ -2,6 +2,9 @@
 use Rattle.std.specs.Prelude.{ℕ, ◌+◌, Bool, true, false, ◌&&◌, ◌||◌, ◌==◌, nat_le, nat_lt, not, if◌then◌else◌, List, [], ◌∷◌, ◌++◌, length, ℤ, pos, negsuc, Option, Some, None, is_some, Result, Ok, Err, codes}
 use Rattle.std.specs.List.{list_all, list_any}
 use Rattle.std.specs.Str.{bytes_eq}
+use Rattle.eio_value.specs.declared.value.TextId.{TextId}
+use Rattle.eio_value.specs.declared.flow_step.FlowStep.{FlowStep}
+use Rattle.eio_value.specs.declared.flow_step.FlowStep.TheVariants as step
 use Rattle.script_model.specs.Trees.{Tree, Word, Number, Text, Branch, Trees, Nil, And, place_of}
 use Rattle.script_model.specs.declared.Feature.{Feature}
 use Rattle.script_model.specs.declared.Feature.TheVariants as feature
@@ -10,12 +13,6 @@ use Rattle.script_model.specs.Faults.{ScriptFault, Shape, Size, Twice}
 use Rattle.script_model.specs.Results.{◌>>=◌}
 use Rattle.script_model.specs.Scopes.{ObjectKind, StreamKind, PromiseKind, SemaphoreKind, MutexKind, PoolKind, ExecutorKind, FlowKind, DirectoryKind, DeclaredName, declared_in}
 use Rattle.script_model.specs.Operands.{Made, Reads, with_form, interned, text_of, number_of}
-
--- one step of a flow: data, a fault with its text, or a pause
-pub data Step : Type 0 where
-  Data : (bytes : List ℕ) → Step
-  Fault : (text : ℕ) → Step
-  Pause : Step
 
 mutual
   -- one entry of a directory, with its name; a file has its content and a link its target
@@ -35,7 +32,7 @@ pub data Declaration : Type 0 where
   Mutex : Declaration
   Pool : (size : ℕ) → Declaration
   Executor : (workers : List ℕ) → Declaration
-  Flow : List Step → Declaration
+  Flow : List FlowStep → Declaration
   Dir : Entries → Declaration
 
 -- how many steps of flows and entries of directories there are so far, over the whole script
@@ -45,7 +42,7 @@ pub record Counted : Type 0 where
 
 -- what the declarations so far are: their names (in the table), themselves, their names in scope, and the counts
 pub record Declaring : Type 0 where
-  pub names : List ℕ
+  pub names : List TextId
   pub declarations : List Declaration
   pub scope : List DeclaredName
   pub counted : Counted
@@ -96,31 +93,31 @@ workers bodies n (And tree row) = Err (Shape (place_of tree))
 abbrev pub most_steps : ℕ
 most_steps = 1024
 
-abbrev pub data_of : Tree → Made → Reads Step
+abbrev pub data_of : Tree → Made → Reads FlowStep
 data_of (Text at []) made = Err (Shape at)
-data_of (Text at (b ∷ bytes)) made = Ok (Data (b ∷ bytes), (interned (b ∷ bytes) made).1)
+data_of (Text at (b ∷ bytes)) made = Ok (step.Data (b ∷ bytes), (interned (b ∷ bytes) made).1)
 data_of tree made = Err (Shape (place_of tree))
 
 -- a step by its list
-abbrev pub step_by : ℕ → (full : Bool) → Trees → Made → Reads Step
+abbrev pub step_by : ℕ → (full : Bool) → Trees → Made → Reads FlowStep
 step_by at full (And (Word p word) (And text Nil)) made =
     elim (bytes_eq word (codes "data")) [
       | true ↦ elim full [ true ↦ Err (Size at) | false ↦ data_of text made ]
       | false ↦ elim (bytes_eq word (codes "fault")) [
-        | true ↦ elim full [ true ↦ Err (Size at) | false ↦ (text_of text made >>= λ t. Ok (Fault t.0, t.1)) ]
+        | true ↦ elim full [ true ↦ Err (Size at) | false ↦ (text_of text made >>= λ t. Ok (step.Fault t.0, t.1)) ]
         | false ↦ Err (Shape at)
       ]
     ]
 step_by at full (And (Word p word) Nil) made =
-    elim (bytes_eq word (codes "pause")) [ true ↦ elim full [ true ↦ Err (Size at) | false ↦ Ok (Pause, made) ] | false ↦ Err (Shape at) ]
+    elim (bytes_eq word (codes "pause")) [ true ↦ elim full [ true ↦ Err (Size at) | false ↦ Ok (step.Pause, made) ] | false ↦ Err (Shape at) ]
 step_by at full row made = Err (Shape at)
 
-abbrev pub step_of : (full : Bool) → Tree → Made → Reads Step
+abbrev pub step_of : (full : Bool) → Tree → Made → Reads FlowStep
 step_of full (Branch at row) made = step_by at full row made
 step_of full tree made = Err (Shape (place_of tree))
 
 -- the steps of a flow, of which n of this and other flows came before
-unfoldable pub steps_of : ℕ → Trees → Made → Reads (List Step)
+unfoldable pub steps_of : ℕ → Trees → Made → Reads (List FlowStep)
 steps_of n Nil made = Ok ([], made)
 steps_of n (And tree row) made = step_of (nat_le most_steps n) tree made >>= λ s. steps_of (n + 1) row s.1 >>= λ others. Ok (s.0 ∷ others.0, others.1)
 

@@ -17,3 +17,5 @@ pub mod Operands
 pub mod Statements
 pub mod Declarations
 pub mod Scripts
+pub mod Opening
+pub mod Inputs

@@ -2,6 +2,8 @@
 use Rattle.std.specs.Prelude.{ℕ, zero, suc, ◌+◌, Bool, true, false, ◌&&◌, ◌||◌, ◌==◌, nat_le, nat_lt, if◌then◌else◌, List, [], ◌∷◌, ◌++◌, length, ℤ, pos, negsuc, Option, Some, None, is_some, Result, Ok, Err}
 use Rattle.std.specs.List.{position_from, list_any}
 use Rattle.std.specs.Str.{bytes_eq}
+use Rattle.eio_value.specs.declared.value.TextId.{TextId}
+use Rattle.eio_value.specs.Table.{intern}
 use Rattle.script_model.specs.Trees.{Tree, Word, Number, Text, Branch, Trees, Nil, And, place_of}
 use Rattle.script_model.specs.declared.Feature.{Feature}
 use Rattle.script_model.specs.declared.Feature.TheVariants as feature
@@ -23,7 +25,7 @@ pub record Formed : Type 0 where
 pub record Made : Type 0 where
   pub nodes : ℕ
   pub texts : List (List ℕ)
-  pub failures : List ℕ
+  pub failures : List TextId
   pub formed : List Formed
 
 abbrev pub Reads : Type 0 → Type 0
@@ -38,24 +40,20 @@ one_node made = record made { nodes = made.nodes + 1 }
 abbrev pub with_form : ℕ → Feature → Bool → Made → Made
 with_form at feature mocked made = record made { formed = made.formed ++ record { at = at; feature = feature; mocked = mocked } ∷ [] }
 
-abbrev pub interned_by : List ℕ → Made → Option ℕ → ℕ × Made
-interned_by text made (Some number) = (number, made)
-interned_by text made None = (length made.texts, record made { texts = made.texts ++ text ∷ [] })
-
 -- the number of a text in the table, new or old
-unfoldable pub interned : List ℕ → Made → ℕ × Made
-interned text made = interned_by text made (position_from (bytes_eq text) 0 made.texts)
+abbrev pub interned : List ℕ → Made → TextId × Made
+interned text made = let found = intern made.texts text in (found.id, record made { texts = found.texts })
 
 -- the number of a text that may fail a fiber
-abbrev pub failure : List ℕ → Made → ℕ × Made
+abbrev pub failure : List ℕ → Made → TextId × Made
 failure text made = let found = interned text made in (found.0, record found.1 { failures = found.1.failures ++ found.0 ∷ [] })
 
 -- a text operand
-abbrev pub text_of : Tree → Made → Reads ℕ
+abbrev pub text_of : Tree → Made → Reads TextId
 text_of (Text at text) made = Ok (interned text made)
 text_of tree made = Err (Shape (place_of tree))
 
-abbrev pub failure_of : Tree → Made → Reads ℕ
+abbrev pub failure_of : Tree → Made → Reads TextId
 failure_of (Text at text) made = Ok (failure text made)
 failure_of tree made = Err (Shape (place_of tree))
 

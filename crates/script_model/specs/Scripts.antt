@@ -1,5 +1,6 @@
 -- The script that a tree stands for: `(eio 1 DECLARATION* (main STATEMENT*) (domain STATEMENT*)*)`, or its first refused node.
 use Rattle.std.specs.Prelude.{ℕ, ◌+◌, Bool, true, false, ◌&&◌, ◌==◌, nat_le, List, [], ◌∷◌, ◌++◌, length, ℤ, pos, negsuc, Option, Some, None, Result, Ok, Err, codes}
+use Rattle.eio_value.specs.declared.value.TextId.{TextId}
 use Rattle.script_model.specs.Trees.{Tree, Word, Number, Text, Branch, Trees, Nil, And, place_of}
 use Rattle.script_model.specs.Syntax.{Block, Begins}
 use Rattle.script_model.specs.Faults.{ScriptFault, Shape, Size}
@@ -12,11 +13,11 @@ use Rattle.script_model.specs.Declarations.{Declaration, Declaring, declaration,
 -- declarations with their names, bodies with main first, the table of texts so far, the texts that may fail a fiber, the forms in
 -- reading order, and the place of the first `domain` if there is one
 pub record Script : Type 0 where
-  pub names : List ℕ
+  pub names : List TextId
   pub declarations : List Declaration
   pub bodies : List Block
   pub texts : List (List ℕ)
-  pub failures : List ℕ
+  pub failures : List TextId
   pub formed : List Formed
   pub domain : Option ℕ
 

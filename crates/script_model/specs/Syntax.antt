@@ -6,10 +6,11 @@
 -- Nodes are numbered in reading order from 0: each statement, each expression and the end of each block is a node. A block has
 -- the number of the node that it begins with, by which a job or a handler names it.
 use Rattle.std.specs.Prelude.{ℕ, ℤ, List, Bool}
+use Rattle.eio_value.specs.declared.value.TextId.{TextId}
 
 pub data Expression : Type 0 where
   NumberValue : (z : ℤ) → Expression
-  TextValue : (text : ℕ) → Expression
+  TextValue : (text : TextId) → Expression
   Variable : (slot : ℕ) → Expression
   UnitValue : Expression
   Plus : Expression → Expression → Expression
@@ -73,7 +74,7 @@ mutual
     LetForm : Statement → Statement
     If : Expression → Block → Block → Statement
     Give : Expression → Statement
-    Raise : (text : ℕ) → Statement
+    Raise : (text : TextId) → Statement
     Try : Block → Block → Statement
     Repeat : Expression → Block → Statement
     Loop : Block → Statement
@@ -83,10 +84,10 @@ mutual
     AwaitCancel : Statement
     Sub : Block → Statement
     Protect : Block → Statement
-    Cancel : (context text : ℕ) → Statement
+    Cancel : (context : ℕ) → (text : TextId) → Statement
     Switch : Block → Statement
     Fork : Forking → (switch : ℕ) → Block → Statement
-    Fail : (switch text : ℕ) → Statement
+    Fail : (switch : ℕ) → (text : TextId) → Statement
     OnRelease : (switch : ℕ) → Block → Statement
     Branches : Group → Blocks → Statement
     OnObject : ObjectCall → (object : ℕ) → Statement
