@@ -186,7 +186,7 @@ unfoldable mutual
       entry_of before n tree made >>= λ e. entries_of (e.0.name ∷ before) e.0.count row e.1 >>= λ others.
       Ok (record { entries = AndEntry e.0.entry others.0.entries; count = others.0.count }, others.1)
 
-  entry_of : List (List ℕ) → ℕ → Tree → Made → Reads EntryRead
+  pub entry_of : List (List ℕ) → ℕ → Tree → Made → Reads EntryRead
   entry_of before n (Branch at row) made =
       elim (fits_entry (entry_in_front row) (count (behind row))) [
         | false ↦ Err (Shape at)
@@ -194,7 +194,7 @@ unfoldable mutual
       ]
   entry_of before n tree made = Err (Shape (place_of tree))
 
-  entry_by : List (List ℕ) → ℕ → EntryHead → Trees → Made → Reads EntryRead
+  pub entry_by : List (List ℕ) → ℕ → EntryHead → Trees → Made → Reads EntryRead
   entry_by before n FileHead (And head (And name (And content Nil))) made =
       entry_name before name >>= λ own. content_of content >>= λ bytes.
       Ok (record { name = own; entry = File own bytes; count = n }, (interned bytes (interned own made).1).1)

@@ -59,7 +59,7 @@ unfoldable mutual
   statement scope last tree made = Err (Shape (place_of tree))
 
   -- what a `let` binds: a form that gives a value, or an expression
-  value : Scope → Tree → Made → Reads Statement
+  pub value : Scope → Tree → Made → Reads Statement
   value scope (Branch at row) made =
       elim (form_in_front row) [
         | None ↦ expression_value (expression scope false (Branch at row) made)
@@ -75,18 +75,18 @@ unfoldable mutual
       statement scope false tree made >>= λ s. statements s.0.1 (And next row) s.1 >>= λ rest. Ok (Then s.0.0 rest.0, rest.1)
 
   -- an item that is a block
-  block : Scope → (many : Bool) → Tree → Made → Reads Block
+  pub block : Scope → (many : Bool) → Tree → Made → Reads Block
   block scope many (Branch at row) made = elim many [ true ↦ Err (Size at) | false ↦ begun made (statements scope row made) ]
   block scope many tree made = Err (Shape (place_of tree))
 
   -- branches, of which n came before
-  branches : Scope → ℕ → Trees → Made → Reads Blocks
+  pub branches : Scope → ℕ → Trees → Made → Reads Blocks
   branches scope n Nil made = Ok (NoBlocks, made)
   branches scope n (And tree row) made =
       block scope (nat_le most_branches n) tree made >>= λ b. branches scope (n + 1) row b.1 >>= λ bs. Ok (AndBlock b.0 bs.0, bs.1)
 
   -- the form of a head: a list with the head in front and the right number of items behind it
-  form : Scope → (last : Bool) → (at : ℕ) → Head → Trees → Made → Stated
+  pub form : Scope → (last : Bool) → (at : ℕ) → Head → Trees → Made → Stated
   form scope last at forms.LetHead (And front (And name (And bound Nil))) made =
       bring VariableKind scope name >>= λ behind. value scope bound made >>= λ s. Ok ((s.0, behind), s.1)
   form scope last at forms.IfHead (And front (And e (And b (And c Nil)))) made =
