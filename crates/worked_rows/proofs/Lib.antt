@@ -1,4 +1,5 @@
 mod WholeTrees
+mod SpelledTrees
 mod TreeFaults
 mod TreeLimits
 mod Prefixes
