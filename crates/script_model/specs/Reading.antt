@@ -149,16 +149,17 @@ run_at at bytes =
     let run = take_while is_run_byte bytes in
     run_tree at run >>= λ tree. Ok (found tree (here (at + length run) (drop (length run) bytes)))
 
--- the tree that begins here, which isn't the end of the input; `list_at` reads what follows a `(`
+-- the tree that begins here, where `list_at` reads what follows a `(`. An input that ends before any tree is Unclosed
+-- at its end.
 abbrev pub tree_by : (list_at : ℕ → List ℕ → Result Found TreeFault) → Here → Result Found TreeFault
-tree_by list_at h = elim h.bytes [
-  | [] ↦ Err (fault.Unclosed h.at)
+tree_by list_at from = elim from.bytes [
+  | [] ↦ Err (fault.Unclosed from.at)
   | b ∷ bytes ↦ elim (start_of b) [
-    | Opens ↦ list_at h.at bytes
-    | Closes ↦ Err (fault.Stray h.at)
-    | Quotes ↦ text_at h.at bytes
-    | Runs ↦ run_at h.at (b ∷ bytes)
-    | Strange ↦ Err (fault.Byte h.at)
+    | Opens ↦ list_at from.at bytes
+    | Closes ↦ Err (fault.Stray from.at)
+    | Quotes ↦ text_at from.at bytes
+    | Runs ↦ run_at from.at (b ∷ bytes)
+    | Strange ↦ Err (fault.Byte from.at)
   ]
 ]
 
@@ -172,15 +173,15 @@ abbrev pub going_of : List ℕ → Going
 going_of [] = InputEnds
 going_of (b ∷ bytes) = if b == close_paren then ListEnds bytes else TreeComes
 
--- the rest of the list that began at `paren`: at most `most` trees, each read by `tree_here`, with any gap before each
--- and before the `)`. A list never has more trees than bytes.
+-- the rest of the list that began at `paren`: trees that `tree_here` reads, with any gap before each and before the `)`.
+-- There are at most `most` of them; a list never has more trees than bytes, so it never comes to that.
 unfoldable pub trees_by : (tree_here : Here → Result Found TreeFault) → (most paren : ℕ) → Here → Result Row TreeFault
-trees_by tree_here zero paren h = Err (fault.Unclosed paren)
-trees_by tree_here (suc most) paren h =
-    elim (going_of h.bytes) [
+trees_by tree_here zero paren from = Err (fault.Unclosed paren)
+trees_by tree_here (suc most) paren from =
+    elim (going_of from.bytes) [
       | InputEnds ↦ Err (fault.Unclosed paren)
-      | ListEnds behind ↦ Ok (record { row = Nil; next = here (h.at + 1) behind })
-      | TreeComes ↦ (tree_here h >>= λ first. trees_by tree_here most paren (past_gap false first.next.at first.next.bytes) >>= λ others. Ok (with_tree first.tree others))
+      | ListEnds behind ↦ Ok (record { row = Nil; next = here (from.at + 1) behind })
+      | TreeComes ↦ (tree_here from >>= λ first. trees_by tree_here most paren (past_gap false first.next.at first.next.bytes) >>= λ others. Ok (with_tree first.tree others))
     ]
 
 -- the list that begins at `paren`
@@ -189,8 +190,8 @@ list_by tree_here paren bytes = trees_by tree_here (length bytes + 1) paren (pas
 
 -- the tree that begins here, where so many lists may be opened in one another
 unfoldable pub tree_at : (lists : ℕ) → Here → Result Found TreeFault
-tree_at zero h = tree_by (λ paren bytes. Err (fault.Deep paren)) h
-tree_at (suc lists) h = tree_by (λ paren bytes. list_by (tree_at lists) paren bytes) h
+tree_at zero from = tree_by (λ paren bytes. Err (fault.Deep paren)) from
+tree_at (suc lists) from = tree_by (λ paren bytes. list_by (tree_at lists) paren bytes) from
 
 -- nothing but gap stands behind the whole tree
 abbrev pub alone : Found → Result Tree TreeFault

@@ -1,0 +1,9 @@
+mod WholeTrees
+mod SpelledTrees
+mod TreeFaults
+mod TreeLimits
+mod Prefixes
+mod CanonicalTrees
+mod CommandWords
+mod RefusalLines
+mod GeneratedScripts
