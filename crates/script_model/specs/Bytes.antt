@@ -25,6 +25,9 @@ close_paren = 41
 abbrev pub minus : ℕ
 minus = 45
 
+abbrev pub slash : ℕ
+slash = 47
+
 abbrev pub digit_zero : ℕ
 digit_zero = 48
 

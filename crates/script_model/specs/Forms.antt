@@ -1,10 +1,16 @@
--- The forms of statements: their words, how many items stand behind them, and what kind of form each is.
-use Rattle.std.specs.Prelude.{ℕ, ◌+◌, Bool, true, false, ◌&&◌, nat_le, List, [], ◌∷◌, Option, Some, None, codes}
+-- The forms of statements and of expressions: their words, and what kind of form each word begins.
+-- How many items stand behind a word, and which, is said where forms are read.
+use Rattle.std.specs.Prelude.{Bool, true, false, if◌then◌else◌, ℕ, List, [], ◌∷◌, Option, Some, None, codes}
+use Rattle.std.specs.List.{find}
 use Rattle.std.specs.Str.{bytes_eq}
-use Rattle.script_model.specs.Trees.{Trees, Nil, And}
 use Rattle.script_model.specs.declared.Feature.{Feature}
 use Rattle.script_model.specs.declared.Feature.TheVariants.{FirstForms, Exceptions, Switches, Groups, StreamsAndPromises, Resources, Flows, Paths, Executors}
+use Rattle.script_model.specs.Trees.{Text, Trees, Nil, And}
+use Rattle.script_model.specs.Syntax.{Operator, Plus, Minus, Same, Less, Group, Both, All, First, Any, ObjectCall, Take, TakeNonblocking, Length, Await, Acquire, Release, Lock, TryLock, Unlock, ObjectCallWith, Add, Resolve, TryResolve, ReaderCall, Line, TakeAll, Char, AtEnd, PathCall, Load, Mkdir, ReadDir, Unlink, Rmdir, Kind}
 
+-- ## Statements
+
+-- what a statement's word begins; those that are read alike have one head
 pub data Head : Type 0 where
   LetHead : Head
   IfHead : Head
@@ -26,174 +32,138 @@ pub data Head : Type 0 where
   ForkPromiseHead : Head
   FailHead : Head
   OnReleaseHead : Head
-  BothHead : Head
-  AllHead : Head
-  FirstHead : Head
-  AnyHead : Head
-  AddHead : Head
-  TakeHead : Head
-  TakeNonblockingHead : Head
-  LengthHead : Head
-  ResolveHead : Head
-  TryResolveHead : Head
-  AwaitHead : Head
-  AcquireHead : Head
-  ReleaseHead : Head
-  LockHead : Head
-  TryLockHead : Head
-  UnlockHead : Head
+  -- two branches, or any number of them
+  PairHead : Group → Head
+  RowHead : Group → Head
+  ObjectHead : ObjectCall → Head
+  ObjectHeadWith : ObjectCallWith → Head
   UseRwHead : Head
   UsePoolHead : Head
   SubmitHead : Head
   SleepHead : Head
   NowHead : Head
   BufReadHead : Head
-  LineHead : Head
+  ReaderHead : ReaderCall → Head
   TakeBytesHead : Head
-  TakeAllHead : Head
-  CharHead : Head
-  AtEndHead : Head
   CopyHead : Head
   BufWriteHead : Head
   PutHead : Head
   OpenDirHead : Head
-  LoadHead : Head
-  SaveHead : Head
-  SaveNewHead : Head
-  MkdirHead : Head
-  ReadDirHead : Head
-  UnlinkHead : Head
-  RmdirHead : Head
-  KindHead : Head
+  PathHead : PathCall → Head
+  SaveHead : (only_new : Bool) → Head
 
--- a form: its word and head, the least number of items behind the head and the greatest if there is one, whether it gives a
--- value, whether it is for the mocked domain alone, and the feature that brings it
+-- a form: its word, what the word begins, whether it gives a value, so that it may stand in `let`, whether it is for the mocked domain
+-- alone, and the feature that brings it
 pub record Form : Type 0 where
   pub word : List ℕ
   pub head : Head
-  pub least : ℕ
-  pub most : Option ℕ
   pub gives : Bool
   pub mocked : Bool
   pub feature : Feature
 
--- a form with exactly so many items, or with at least so many
-abbrev pub exactly : ℕ → List ℕ → Head → Feature → Form
-exactly n word head feature = record { word = word; head = head; least = n; most = Some n; gives = false; mocked = false; feature = feature }
+abbrev pub plain_form : List ℕ → Head → Feature → Form
+plain_form word head feature = record { word = word; head = head; gives = false; mocked = false; feature = feature }
 
-abbrev pub at_least : ℕ → List ℕ → Head → Feature → Form
-at_least n word head feature = record { word = word; head = head; least = n; most = None; gives = false; mocked = false; feature = feature }
-
--- the form gives a value, so that it may stand in `let`
 abbrev pub giving : Form → Form
 giving form = record form { gives = true }
 
--- the form is for the mocked domain alone
-abbrev pub only_mocked : Form → Form
-only_mocked form = record form { mocked = true }
+abbrev pub mocked_alone : Form → Form
+mocked_alone form = record form { mocked = true }
 
--- all forms of statements
 abbrev pub forms : List Form
 forms =
-    (exactly 2 (codes "let") LetHead Exceptions)
-    ∷ (exactly 3 (codes "if") IfHead Exceptions)
-    ∷ (exactly 1 (codes "give") GiveHead Exceptions)
-    ∷ (exactly 1 (codes "raise") RaiseHead Exceptions)
-    ∷ (giving (exactly 3 (codes "try") TryHead Exceptions))
-    ∷ (at_least 2 (codes "repeat") RepeatHead Exceptions)
-    ∷ (at_least 0 (codes "loop") LoopHead Exceptions)
-    ∷ (at_least 0 (codes "trace") TraceHead FirstForms)
-    ∷ (exactly 0 (codes "yield") YieldHead FirstForms)
-    ∷ (exactly 0 (codes "check") CheckHead Exceptions)
-    ∷ (exactly 0 (codes "await-cancel") AwaitCancelHead Exceptions)
-    ∷ (giving (at_least 1 (codes "sub") SubHead Exceptions))
-    ∷ (giving (at_least 0 (codes "protect") ProtectHead Exceptions))
-    ∷ (exactly 2 (codes "cancel") CancelHead Exceptions)
-    ∷ (giving (at_least 1 (codes "switch") SwitchHead FirstForms))
-    ∷ (at_least 1 (codes "fork") ForkHead FirstForms)
-    ∷ (at_least 1 (codes "fork-daemon") ForkDaemonHead Switches)
-    ∷ (at_least 2 (codes "fork-promise") ForkPromiseHead StreamsAndPromises)
-    ∷ (exactly 2 (codes "fail") FailHead Switches)
-    ∷ (at_least 1 (codes "on-release") OnReleaseHead Switches)
-    ∷ (exactly 2 (codes "both") BothHead Groups)
-    ∷ (at_least 0 (codes "all") AllHead Groups)
-    ∷ (giving (exactly 2 (codes "first") FirstHead Groups))
-    ∷ (giving (at_least 0 (codes "any") AnyHead Groups))
-    ∷ (exactly 2 (codes "add") AddHead StreamsAndPromises)
-    ∷ (giving (exactly 1 (codes "take") TakeHead StreamsAndPromises))
-    ∷ (giving (exactly 1 (codes "take-nonblocking") TakeNonblockingHead StreamsAndPromises))
-    ∷ (giving (exactly 1 (codes "length") LengthHead StreamsAndPromises))
-    ∷ (exactly 2 (codes "resolve") ResolveHead StreamsAndPromises)
-    ∷ (giving (exactly 2 (codes "try-resolve") TryResolveHead StreamsAndPromises))
-    ∷ (giving (exactly 1 (codes "await") AwaitHead StreamsAndPromises))
-    ∷ (exactly 1 (codes "acquire") AcquireHead Resources)
-    ∷ (exactly 1 (codes "release") ReleaseHead Resources)
-    ∷ (exactly 1 (codes "lock") LockHead Resources)
-    ∷ (giving (exactly 1 (codes "try-lock") TryLockHead Resources))
-    ∷ (exactly 1 (codes "unlock") UnlockHead Resources)
-    ∷ (giving (at_least 1 (codes "use-rw") UseRwHead Resources))
-    ∷ (giving (at_least 2 (codes "use-pool") UsePoolHead Resources))
-    ∷ (giving (at_least 3 (codes "submit") SubmitHead Executors))
-    ∷ (only_mocked (exactly 1 (codes "sleep") SleepHead Resources))
-    ∷ (giving (only_mocked (exactly 0 (codes "now") NowHead Resources)))
-    ∷ (giving (only_mocked (at_least 3 (codes "buf-read") BufReadHead Flows)))
-    ∷ (giving (only_mocked (exactly 1 (codes "line") LineHead Flows)))
-    ∷ (giving (only_mocked (exactly 2 (codes "take-bytes") TakeBytesHead Flows)))
-    ∷ (giving (only_mocked (exactly 1 (codes "take-all") TakeAllHead Flows)))
-    ∷ (giving (only_mocked (exactly 1 (codes "char") CharHead Flows)))
-    ∷ (giving (only_mocked (exactly 1 (codes "at-end") AtEndHead Flows)))
-    ∷ (only_mocked (exactly 2 (codes "copy") CopyHead Flows))
-    ∷ (giving (only_mocked (at_least 2 (codes "buf-write") BufWriteHead Flows)))
-    ∷ (only_mocked (exactly 2 (codes "put") PutHead Flows))
-    ∷ (giving (only_mocked (at_least 3 (codes "open-dir") OpenDirHead Paths)))
-    ∷ (giving (only_mocked (exactly 2 (codes "load") LoadHead Paths)))
-    ∷ (only_mocked (exactly 3 (codes "save") SaveHead Paths))
-    ∷ (only_mocked (exactly 3 (codes "save-new") SaveNewHead Paths))
-    ∷ (only_mocked (exactly 2 (codes "mkdir") MkdirHead Paths))
-    ∷ (giving (only_mocked (exactly 2 (codes "read-dir") ReadDirHead Paths)))
-    ∷ (only_mocked (exactly 2 (codes "unlink") UnlinkHead Paths))
-    ∷ (only_mocked (exactly 2 (codes "rmdir") RmdirHead Paths))
-    ∷ (giving (only_mocked (exactly 2 (codes "kind") KindHead Paths))) ∷ []
+    (plain_form (codes "let") LetHead Exceptions)
+    ∷ (plain_form (codes "if") IfHead Exceptions)
+    ∷ (plain_form (codes "give") GiveHead Exceptions)
+    ∷ (plain_form (codes "raise") RaiseHead Exceptions)
+    ∷ giving (plain_form (codes "try") TryHead Exceptions)
+    ∷ (plain_form (codes "repeat") RepeatHead Exceptions)
+    ∷ (plain_form (codes "loop") LoopHead Exceptions)
+    ∷ (plain_form (codes "trace") TraceHead FirstForms)
+    ∷ (plain_form (codes "yield") YieldHead FirstForms)
+    ∷ (plain_form (codes "check") CheckHead Exceptions)
+    ∷ (plain_form (codes "await-cancel") AwaitCancelHead Exceptions)
+    ∷ giving (plain_form (codes "sub") SubHead Exceptions)
+    ∷ giving (plain_form (codes "protect") ProtectHead Exceptions)
+    ∷ (plain_form (codes "cancel") CancelHead Exceptions)
+    ∷ giving (plain_form (codes "switch") SwitchHead FirstForms)
+    ∷ (plain_form (codes "fork") ForkHead FirstForms)
+    ∷ (plain_form (codes "fork-daemon") ForkDaemonHead Switches)
+    ∷ (plain_form (codes "fork-promise") ForkPromiseHead StreamsAndPromises)
+    ∷ (plain_form (codes "fail") FailHead Switches)
+    ∷ (plain_form (codes "on-release") OnReleaseHead Switches)
+    ∷ (plain_form (codes "both") (PairHead Both) Groups)
+    ∷ (plain_form (codes "all") (RowHead All) Groups)
+    ∷ giving (plain_form (codes "first") (PairHead First) Groups)
+    ∷ giving (plain_form (codes "any") (RowHead Any) Groups)
+    ∷ (plain_form (codes "add") (ObjectHeadWith Add) StreamsAndPromises)
+    ∷ giving (plain_form (codes "take") (ObjectHead Take) StreamsAndPromises)
+    ∷ giving (plain_form (codes "take-nonblocking") (ObjectHead TakeNonblocking) StreamsAndPromises)
+    ∷ giving (plain_form (codes "length") (ObjectHead Length) StreamsAndPromises)
+    ∷ (plain_form (codes "resolve") (ObjectHeadWith Resolve) StreamsAndPromises)
+    ∷ giving (plain_form (codes "try-resolve") (ObjectHeadWith TryResolve) StreamsAndPromises)
+    ∷ giving (plain_form (codes "await") (ObjectHead Await) StreamsAndPromises)
+    ∷ (plain_form (codes "acquire") (ObjectHead Acquire) Resources)
+    ∷ (plain_form (codes "release") (ObjectHead Release) Resources)
+    ∷ (plain_form (codes "lock") (ObjectHead Lock) Resources)
+    ∷ giving (plain_form (codes "try-lock") (ObjectHead TryLock) Resources)
+    ∷ (plain_form (codes "unlock") (ObjectHead Unlock) Resources)
+    ∷ giving (plain_form (codes "use-rw") UseRwHead Resources)
+    ∷ giving (plain_form (codes "use-pool") UsePoolHead Resources)
+    ∷ giving (plain_form (codes "submit") SubmitHead Executors)
+    ∷ mocked_alone (plain_form (codes "sleep") SleepHead Resources)
+    ∷ giving (mocked_alone (plain_form (codes "now") NowHead Resources))
+    ∷ giving (mocked_alone (plain_form (codes "buf-read") BufReadHead Flows))
+    ∷ giving (mocked_alone (plain_form (codes "line") (ReaderHead Line) Flows))
+    ∷ giving (mocked_alone (plain_form (codes "take-bytes") TakeBytesHead Flows))
+    ∷ giving (mocked_alone (plain_form (codes "take-all") (ReaderHead TakeAll) Flows))
+    ∷ giving (mocked_alone (plain_form (codes "char") (ReaderHead Char) Flows))
+    ∷ giving (mocked_alone (plain_form (codes "at-end") (ReaderHead AtEnd) Flows))
+    ∷ mocked_alone (plain_form (codes "copy") CopyHead Flows)
+    ∷ giving (mocked_alone (plain_form (codes "buf-write") BufWriteHead Flows))
+    ∷ mocked_alone (plain_form (codes "put") PutHead Flows)
+    ∷ giving (mocked_alone (plain_form (codes "open-dir") OpenDirHead Paths))
+    ∷ giving (mocked_alone (plain_form (codes "load") (PathHead Load) Paths))
+    ∷ mocked_alone (plain_form (codes "save") (SaveHead false) Paths)
+    ∷ mocked_alone (plain_form (codes "save-new") (SaveHead true) Paths)
+    ∷ mocked_alone (plain_form (codes "mkdir") (PathHead Mkdir) Paths)
+    ∷ giving (mocked_alone (plain_form (codes "read-dir") (PathHead ReadDir) Paths))
+    ∷ mocked_alone (plain_form (codes "unlink") (PathHead Unlink) Paths)
+    ∷ mocked_alone (plain_form (codes "rmdir") (PathHead Rmdir) Paths)
+    ∷ giving (mocked_alone (plain_form (codes "kind") (PathHead Kind) Paths)) ∷ []
 
-abbrev pub form_in : List Form → List ℕ → Option Form
-form_in [] word = None
-form_in (form ∷ others) word = elim (bytes_eq form.word word) [ true ↦ Some form | false ↦ form_in others word ]
-
--- the form that begins with a word
+-- the form that a word begins
 unfoldable pub form_of : List ℕ → Option Form
-form_of word = form_in forms word
+form_of word = find (λ form. bytes_eq form.word word) forms
 
-abbrev pub count : Trees → ℕ
-count Nil = 0
-count (And tree row) = count row + 1
+abbrev pub are_texts : Trees → Bool
+are_texts Nil = true
+are_texts (And (Text at text) row) = are_texts row
+are_texts (And tree row) = false
 
--- whether so many items may stand behind the head
-abbrev pub fits : Form → ℕ → Bool
-fits form n = nat_le form.least n && elim form.most [ Some most ↦ nat_le n most | None ↦ true ]
+-- of `trace` the first forms have one or more texts; any other `trace` comes with the exceptions
+abbrev pub trace_feature : Trees → Feature
+trace_feature Nil = Exceptions
+trace_feature (And tree row) = if are_texts (And tree row) then FirstForms else Exceptions
 
--- the forms of expressions, with the number of their operands
-pub data Operator : Type 0 where
-  UnitOperator : Operator
-  PlusOperator : Operator
-  MinusOperator : Operator
-  SameOperator : Operator
-  LessOperator : Operator
+-- the feature that brings a form with these items
+abbrev pub feature_of : Form → Trees → Feature
+feature_of form items = elim form.head [ TraceHead ↦ trace_feature items | _ ↦ form.feature ]
 
-pub record Operation : Type 0 where
-  pub word : List ℕ
-  pub operator : Operator
-  pub operands : ℕ
+-- ## Expressions
 
-abbrev pub operations : List Operation
-operations =
-    record { word = codes "unit"; operator = UnitOperator; operands = 0 } ∷ record { word = codes "plus"; operator = PlusOperator; operands = 2 }
-    ∷ record { word = codes "minus"; operator = MinusOperator; operands = 2 } ∷ record { word = codes "same"; operator = SameOperator; operands = 2 }
-    ∷ record { word = codes "less"; operator = LessOperator; operands = 2 } ∷ []
+-- what an expression's word begins
+pub data ExpressionHead : Type 0 where
+  UnitHead : ExpressionHead
+  OperatorHead : Operator → ExpressionHead
 
-abbrev pub operation_in : List Operation → List ℕ → Option Operation
-operation_in [] word = None
-operation_in (operation ∷ others) word = elim (bytes_eq operation.word word) [ true ↦ Some operation | false ↦ operation_in others word ]
-
--- the operation that begins with a word
-unfoldable pub operation_of : List ℕ → Option Operation
-operation_of word = operation_in operations word
+abbrev pub expression_head : List ℕ → Option ExpressionHead
+expression_head word =
+    if bytes_eq word (codes "unit") then Some UnitHead
+    else
+    (if bytes_eq word (codes "plus") then Some (OperatorHead Plus)
+    else
+    (if bytes_eq word (codes "minus") then Some (OperatorHead Minus)
+    else
+    (if bytes_eq word (codes "same") then Some (OperatorHead Same)
+    else (if bytes_eq word (codes "less") then Some (OperatorHead Less) else None))))

@@ -1,22 +1,14 @@
 -- What an input is to a command, and what `check` and `print` answer to it.
 -- Of several refusals the first is the answer: the size of the input, its tree, its script, and then the forms that the command
 -- doesn't run. `check` and `print` refuse no form.
-use Rattle.std.specs.Prelude.{ℕ, Bool, true, false, List, [], ◌∷◌, codes, Option, Some, None, Result, Ok, Err}
+use Rattle.std.specs.Prelude.{ℕ, Bool, true, false, List, codes, Option, Some, None, Result, Ok, Err}
 use Rattle.script_model.specs.Trees.{Tree}
 use Rattle.script_model.specs.Results.{◌>>=◌}
-use Rattle.script_model.specs.Features.{Built, is_built}
+use Rattle.script_model.specs.Features.{Built}
 use Rattle.script_model.specs.Canonical.{document}
 use Rattle.script_model.specs.Refusals.{Refusal, NoScript, MockOnly, DomainOnly, Unbuilt, refusal_line, or_refused, input_tree}
-use Rattle.script_model.specs.Operands.{Formed}
-use Rattle.script_model.specs.Scripts.{Script, script_of, mock_only, domain_only}
-
--- the place of the first form that isn't built
-abbrev pub first_unbuilt : Built → List Formed → Option ℕ
-first_unbuilt built [] = None
-first_unbuilt built (form ∷ formed) = elim (is_built built form.feature) [ false ↦ Some form.at | true ↦ first_unbuilt built formed ]
-
-abbrev pub unbuilt : Built → Script → Option ℕ
-unbuilt built script = first_unbuilt built script.formed
+use Rattle.script_model.specs.Scripts.{Script, script_of}
+use Rattle.script_model.specs.RefusedForms.{mock_only, domain_only, unbuilt}
 
 -- the script that an input is
 unfoldable pub input_script : List ℕ → Result Script Refusal
@@ -53,10 +45,10 @@ checked_by text (Err refusal) = refused_by refusal
 unfoldable pub checked : List ℕ → Checked
 checked bytes = checked_by (codes "ok\n") (input_script bytes)
 
-abbrev pub printed_by : List ℕ → Result Tree Refusal → Checked
-printed_by bytes (Ok tree) = checked_by (document tree) (or_refused NoScript (script_of tree))
-printed_by bytes (Err refusal) = refused_by refusal
+abbrev pub printed_by : Result Tree Refusal → Checked
+printed_by (Ok tree) = checked_by (document tree) (or_refused NoScript (script_of tree))
+printed_by (Err refusal) = refused_by refusal
 
 -- `print` writes the canonical spelling of the script's tree
 unfoldable pub printed : List ℕ → Checked
-printed bytes = printed_by bytes (input_tree bytes)
+printed bytes = printed_by (input_tree bytes)

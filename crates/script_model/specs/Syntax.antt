@@ -8,22 +8,25 @@
 use Rattle.std.specs.Prelude.{ℕ, ℤ, List, Bool}
 use Rattle.eio_value.specs.declared.value.TextId.{TextId}
 
+pub data Operator : Type 0 where
+  Plus : Operator
+  Minus : Operator
+  Same : Operator
+  Less : Operator
+
 pub data Expression : Type 0 where
   NumberValue : (z : ℤ) → Expression
   TextValue : (text : TextId) → Expression
   Variable : (slot : ℕ) → Expression
   UnitValue : Expression
-  Plus : Expression → Expression → Expression
-  Minus : Expression → Expression → Expression
-  Same : Expression → Expression → Expression
-  Less : Expression → Expression → Expression
+  Operation : Operator → Expression → Expression → Expression
 
--- a directory: a declared one, or a capability in scope
+-- a directory: a declared one by its number, or a capability by its slot
 pub data Directory : Type 0 where
   Declared : (number : ℕ) → Directory
   Opened : (slot : ℕ) → Directory
 
--- calls on a declared object or a reader, without and with an operand
+-- calls on a declared object
 pub data ObjectCall : Type 0 where
   Take : ObjectCall
   TakeNonblocking : ObjectCall
@@ -35,18 +38,20 @@ pub data ObjectCall : Type 0 where
   TryLock : ObjectCall
   Unlock : ObjectCall
 
+-- the same with an operand
 pub data ObjectCallWith : Type 0 where
   Add : ObjectCallWith
   Resolve : ObjectCallWith
   TryResolve : ObjectCallWith
 
+-- calls on a reader
 pub data ReaderCall : Type 0 where
   Line : ReaderCall
   TakeAll : ReaderCall
   Char : ReaderCall
   AtEnd : ReaderCall
 
--- path calls with the path alone
+-- calls on a path that have no other operand
 pub data PathCall : Type 0 where
   Load : PathCall
   Mkdir : PathCall

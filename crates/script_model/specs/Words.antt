@@ -12,18 +12,9 @@ use Rattle.script_model.specs.declared.Command.{Command}
 use Rattle.script_model.specs.declared.Command.TheVariants as command
 use Rattle.script_model.specs.declared.Feature.{Feature}
 use Rattle.script_model.specs.declared.Feature.TheVariants as feature
+use Rattle.script_model.specs.Limits.{most_steps, most_lines, most_load}
 use Rattle.script_model.specs.Features.{Built, is_built}
 use Rattle.script_model.specs.Reading.{is_numeral}
-
--- the greatest numbers that may be asked for, of steps and of lines also the number where none is given
-abbrev pub most_steps : ℕ
-most_steps = 1000000
-
-abbrev pub most_lines : ℕ
-most_lines = 100000
-
-abbrev pub most_load : ℕ
-most_load = 1000
 
 -- the number that a word spells, from 1 to `most`
 abbrev pub number_of : (most : ℕ) → List ℕ → Option ℕ
