@@ -7,3 +7,12 @@ mod CanonicalTrees
 mod CommandWords
 mod RefusalLines
 mod GeneratedScripts
+mod RefusedRoots
+mod RefusedShapes
+mod RefusedDeclarations
+mod ScriptLimits
+mod RefusedNames
+mod RefusedForms
+mod ChecksAndPrints
+mod OpeningTexts
+mod ReadScripts
