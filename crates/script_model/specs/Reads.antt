@@ -56,25 +56,32 @@ requires_that false e = refuses e
 
 -- ## What steps make
 
-abbrev pub makes : Made → Makes
-makes next = λ made. Ok (tt, next)
+abbrev pub made_so_far : Reads Made
+made_so_far = λ made. Ok (made, made)
+
+abbrev pub changes : (Made → Made) → Makes
+changes change = λ made. Ok (tt, change made)
 
 -- the number that the next node has
 abbrev pub next_node : Reads ℕ
-next_node = λ made. Ok (made.nodes, made)
+next_node = made_so_far >>> λ made. gives made.nodes
 
 abbrev pub one_node : Makes
-one_node = λ made. makes (record made { nodes = made.nodes + 1 }) made
+one_node = changes (λ made. record made { nodes = made.nodes + 1 })
 
 abbrev pub one_form : (at : ℕ) → Feature → (mocked : Bool) → Makes
-one_form at feature mocked = λ made. makes (record made { formed = made.formed ++ record { at = at; feature = feature; mocked = mocked } ∷ [] }) made
+one_form at feature mocked = changes (λ made. record made { formed = made.formed ++ record { at = at; feature = feature; mocked = mocked } ∷ [] })
 
 -- one more step of a flow, or entry of a directory, at its place; the first too many is refused
 abbrev pub one_step : (at : ℕ) → Makes
-one_step at = λ made. (requires_that (nat_lt made.steps most_flow_steps) (Size at) >>> λ _. makes (record made { steps = made.steps + 1 })) made
+one_step at =
+    made_so_far >>> λ made. requires_that (nat_lt made.steps most_flow_steps) (Size at) >>> λ _.
+    changes (λ before. record before { steps = before.steps + 1 })
 
 abbrev pub one_entry : (at : ℕ) → Makes
-one_entry at = λ made. (requires_that (nat_lt made.entries most_entries) (Size at) >>> λ _. makes (record made { entries = made.entries + 1 })) made
+one_entry at =
+    made_so_far >>> λ made. requires_that (nat_lt made.entries most_entries) (Size at) >>> λ _.
+    changes (λ before. record before { entries = before.entries + 1 })
 
 -- the number of a text in the table, new or old
 abbrev pub interned : List ℕ → Reads TextId
@@ -82,7 +89,7 @@ interned text = λ made. let found = intern made.texts text in Ok (found.id, rec
 
 -- a text with which a fiber may fail
 abbrev pub may_fail : TextId → Makes
-may_fail text = λ made. makes (record made { failures = made.failures ++ text ∷ [] }) made
+may_fail text = changes (λ made. record made { failures = made.failures ++ text ∷ [] })
 
 -- ## Operands
 
