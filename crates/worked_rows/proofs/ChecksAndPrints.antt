@@ -1,5 +1,5 @@
 -- What `check` and `print` write and the lines by which `mock` and `domains` refuse.
-use Rattle.std.proofs.Common.{◌≡◌, List, [], ◌∷◌, ◌++◌, true, false, refl}
+use Rattle.std.proofs.Common.{◌≡◌, List, [], ◌∷◌, true, false, refl}
 use Rattle.std.specs.Prelude.{ℕ, codes}
 use Rattle.script_model.specs.declared.Feature.TheVariants.{FirstForms}
 use Rattle.script_model.specs.Features.{all_built}

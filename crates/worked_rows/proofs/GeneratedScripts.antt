@@ -2,10 +2,9 @@
 use Rattle.std.proofs.Common.{◌≡◌, refl}
 use Rattle.std.specs.Prelude.{codes}
 use Rattle.std.specs.Fmt.{digits}
-use Rattle.script_model.specs.Reading.{past_gap, text_items, run_tree, trees_by, tree_at, reading}
 use Rattle.script_model.specs.Canonical.{canonical, canonical_row, canonical_rest, document}
 use Rattle.script_model.specs.Generator.{generated_forks, generated, generated_input}
-use Rattle.worked_rows.specs.Respelled.{respelled}
+use Rattle.worked_rows.specs.Read.{respelled}
 
 one_fork : generated_input 1 ≡ codes "(eio 1 (stream q 4) (main (switch s (fork s (add q 0) (yield) (add q 0)) (repeat k 2 (let x (take q)) (trace x)) (trace \"done\"))))\n"
 unfolding generated_input generated generated_forks document canonical canonical_row canonical_rest digits
@@ -21,5 +20,5 @@ eleven_forks = refl
 
 -- read and spelled again, a canonical input is itself
 thirty_forks_read : respelled (generated_input 30) ≡ generated_input 30
-unfolding respelled reading tree_at trees_by run_tree text_items past_gap generated_input generated generated_forks document canonical canonical_row canonical_rest digits
+unfolding respelled generated_input generated generated_forks
 thirty_forks_read = refl

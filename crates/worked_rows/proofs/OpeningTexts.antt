@@ -1,5 +1,5 @@
 -- The table of texts with which a script starts.
-use Rattle.std.proofs.Common.{◌≡◌, List, [], ◌∷◌, ◌++◌, Some, refl}
+use Rattle.std.proofs.Common.{◌≡◌, List, [], ◌∷◌, Some, refl}
 use Rattle.std.specs.Prelude.{ℕ, codes}
 use Rattle.worked_rows.specs.Read.{own_texts, opening}
 

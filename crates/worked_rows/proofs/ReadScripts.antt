@@ -1,9 +1,9 @@
 -- Scripts with their slots, the numbers of their blocks, and their declarations.
-use Rattle.std.proofs.Common.{◌≡◌, ℕ, List, [], ◌∷◌, Some, refl}
+use Rattle.std.proofs.Common.{◌≡◌, [], ◌∷◌, Some, refl}
 use Rattle.std.specs.Prelude.{codes, pos}
 use Rattle.eio_value.specs.Table.{text_id}
 use Rattle.eio_value.specs.declared.flow_step.FlowStep.TheVariants.{Data, Fault, Pause}
-use Rattle.script_model.specs.Syntax.{Expression, NumberValue, TextValue, Variable, Operation, Plus as PlusOperator, Expressions, NoExpressions, AndExpression, Declared, Opened, Load, Both, Statement, Let, LetForm, Give, Raise, Try, Repeat, Loop, Trace, Yield, Sub, Cancel, Branches, Submit, OpenDir, OnPath, Block, Begins, Statements, Done, Then, NoBlocks, AndBlock}
+use Rattle.script_model.specs.Syntax.{Expression, NumberValue, TextValue, Variable, Operation, Plus as PlusOperator, NoExpressions, AndExpression, Declared, Opened, Load, Both, Statement, Let, LetForm, Give, Raise, Try, Repeat, Loop, Trace, Yield, Sub, Cancel, Branches, Submit, OpenDir, OnPath, Begins, Statements, Done, Then, NoBlocks, AndBlock}
 use Rattle.script_model.specs.Entries.{NoEntries, AndEntry, File, Link, Sub as SubEntry}
 use Rattle.script_model.specs.Declarations.{Stream, Promise, Semaphore, Mutex, Pool, Executor, Flow, Dir}
 use Rattle.worked_rows.specs.Read.{bodies, declarations}

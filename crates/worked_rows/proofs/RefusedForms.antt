@@ -1,5 +1,5 @@
 -- The forms that a command refuses: those for the mocked domain alone, further bodies, and what isn't built.
-use Rattle.std.proofs.Common.{◌≡◌, List, [], ◌∷◌, Some, None, refl}
+use Rattle.std.proofs.Common.{◌≡◌, [], ◌∷◌, Some, None, refl}
 use Rattle.std.specs.Prelude.{codes}
 use Rattle.script_model.specs.declared.Feature.TheVariants.{FirstForms, Reading, Exceptions, Switches, Groups, StreamsAndPromises, Resources, Flows, Paths}
 use Rattle.script_model.specs.Features.{Built}

@@ -1,9 +1,10 @@
--- What an input is as a script, in the words in which rows ask for it. Each opens the definitions by which it is computed.
+-- What an input is as a tree and as a script, in the words in which rows ask for it. Each opens the definitions by which it is computed.
 use Rattle.std.specs.Prelude.{ℕ, List, [], Option, Some, None, Result, Ok, Err}
 use Rattle.std.specs.Fmt.{digits}
 use Rattle.script_model.specs.Reading.{past_gap, text_items, run_tree, trees_by, tree_at, reading}
 use Rattle.script_model.specs.Canonical.{canonical, document}
-use Rattle.script_model.specs.Faults.{ScriptFault}
+use Rattle.script_model.specs.Trees.{Tree}
+use Rattle.script_model.specs.Faults.{TreeFault, ScriptFault}
 use Rattle.script_model.specs.Refusals.{Refusal, NoScript, refusal_line, input_tree}
 use Rattle.script_model.specs.Syntax.{Block}
 use Rattle.script_model.specs.Scopes.{bring, used, directory_of}
@@ -21,8 +22,17 @@ use Rattle.script_model.specs.Features.{Built}
 use Rattle.script_model.specs.Inputs as inputs
 use Rattle.script_model.specs.Inputs.{Checked, input_script, mocked_script, shared_script}
 
+unfoldable pub tree : List ℕ → Result Tree TreeFault
+unfolding past_gap text_items run_tree trees_by tree_at reading
+tree bytes = reading bytes
+
+-- its canonical spelling; nothing where it spells no tree
+unfoldable pub respelled : List ℕ → List ℕ
+unfolding tree canonical document digits
+respelled bytes = elim (tree bytes) [ Ok it ↦ document it | Err e ↦ [] ]
+
 unfoldable pub script : List ℕ → Result Script Refusal
-unfolding past_gap text_items run_tree trees_by tree_at reading input_tree bring used directory_of form_of item traced captured_behind statements steps entries workers declaration declarations_behind domains script_of input_script
+unfolding tree input_tree bring used directory_of form_of item traced captured_behind statements steps entries workers declaration declarations_behind domains script_of input_script
 script bytes = input_script bytes
 
 -- what is so of the script, where there is one
