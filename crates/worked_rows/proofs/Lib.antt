@@ -11,6 +11,7 @@ mod RefusedRoots
 mod RefusedShapes
 mod RefusedDeclarations
 mod ScriptLimits
+mod CountedParts
 mod RefusedNames
 mod RefusedForms
 mod ChecksAndPrints
