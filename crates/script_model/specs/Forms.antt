@@ -72,42 +72,42 @@ mocked_alone form = record form { mocked = true }
 
 abbrev pub forms : List Form
 forms =
-    (plain_form (codes "let") LetHead Exceptions)
-    ∷ (plain_form (codes "if") IfHead Exceptions)
-    ∷ (plain_form (codes "give") GiveHead Exceptions)
-    ∷ (plain_form (codes "raise") RaiseHead Exceptions)
+    plain_form (codes "let") LetHead Exceptions
+    ∷ plain_form (codes "if") IfHead Exceptions
+    ∷ plain_form (codes "give") GiveHead Exceptions
+    ∷ plain_form (codes "raise") RaiseHead Exceptions
     ∷ giving (plain_form (codes "try") TryHead Exceptions)
-    ∷ (plain_form (codes "repeat") RepeatHead Exceptions)
-    ∷ (plain_form (codes "loop") LoopHead Exceptions)
-    ∷ (plain_form (codes "trace") TraceHead FirstForms)
-    ∷ (plain_form (codes "yield") YieldHead FirstForms)
-    ∷ (plain_form (codes "check") CheckHead Exceptions)
-    ∷ (plain_form (codes "await-cancel") AwaitCancelHead Exceptions)
+    ∷ plain_form (codes "repeat") RepeatHead Exceptions
+    ∷ plain_form (codes "loop") LoopHead Exceptions
+    ∷ plain_form (codes "trace") TraceHead FirstForms
+    ∷ plain_form (codes "yield") YieldHead FirstForms
+    ∷ plain_form (codes "check") CheckHead Exceptions
+    ∷ plain_form (codes "await-cancel") AwaitCancelHead Exceptions
     ∷ giving (plain_form (codes "sub") SubHead Exceptions)
     ∷ giving (plain_form (codes "protect") ProtectHead Exceptions)
-    ∷ (plain_form (codes "cancel") CancelHead Exceptions)
+    ∷ plain_form (codes "cancel") CancelHead Exceptions
     ∷ giving (plain_form (codes "switch") SwitchHead FirstForms)
-    ∷ (plain_form (codes "fork") ForkHead FirstForms)
-    ∷ (plain_form (codes "fork-daemon") ForkDaemonHead Switches)
-    ∷ (plain_form (codes "fork-promise") ForkPromiseHead StreamsAndPromises)
-    ∷ (plain_form (codes "fail") FailHead Switches)
-    ∷ (plain_form (codes "on-release") OnReleaseHead Switches)
-    ∷ (plain_form (codes "both") (PairHead Both) Groups)
-    ∷ (plain_form (codes "all") (RowHead All) Groups)
+    ∷ plain_form (codes "fork") ForkHead FirstForms
+    ∷ plain_form (codes "fork-daemon") ForkDaemonHead Switches
+    ∷ plain_form (codes "fork-promise") ForkPromiseHead StreamsAndPromises
+    ∷ plain_form (codes "fail") FailHead Switches
+    ∷ plain_form (codes "on-release") OnReleaseHead Switches
+    ∷ plain_form (codes "both") (PairHead Both) Groups
+    ∷ plain_form (codes "all") (RowHead All) Groups
     ∷ giving (plain_form (codes "first") (PairHead First) Groups)
     ∷ giving (plain_form (codes "any") (RowHead Any) Groups)
-    ∷ (plain_form (codes "add") (ObjectHeadWith Add) StreamsAndPromises)
+    ∷ plain_form (codes "add") (ObjectHeadWith Add) StreamsAndPromises
     ∷ giving (plain_form (codes "take") (ObjectHead Take) StreamsAndPromises)
     ∷ giving (plain_form (codes "take-nonblocking") (ObjectHead TakeNonblocking) StreamsAndPromises)
     ∷ giving (plain_form (codes "length") (ObjectHead Length) StreamsAndPromises)
-    ∷ (plain_form (codes "resolve") (ObjectHeadWith Resolve) StreamsAndPromises)
+    ∷ plain_form (codes "resolve") (ObjectHeadWith Resolve) StreamsAndPromises
     ∷ giving (plain_form (codes "try-resolve") (ObjectHeadWith TryResolve) StreamsAndPromises)
     ∷ giving (plain_form (codes "await") (ObjectHead Await) StreamsAndPromises)
-    ∷ (plain_form (codes "acquire") (ObjectHead Acquire) Resources)
-    ∷ (plain_form (codes "release") (ObjectHead Release) Resources)
-    ∷ (plain_form (codes "lock") (ObjectHead Lock) Resources)
+    ∷ plain_form (codes "acquire") (ObjectHead Acquire) Resources
+    ∷ plain_form (codes "release") (ObjectHead Release) Resources
+    ∷ plain_form (codes "lock") (ObjectHead Lock) Resources
     ∷ giving (plain_form (codes "try-lock") (ObjectHead TryLock) Resources)
-    ∷ (plain_form (codes "unlock") (ObjectHead Unlock) Resources)
+    ∷ plain_form (codes "unlock") (ObjectHead Unlock) Resources
     ∷ giving (plain_form (codes "use-rw") UseRwHead Resources)
     ∷ giving (plain_form (codes "use-pool") UsePoolHead Resources)
     ∷ giving (plain_form (codes "submit") SubmitHead Executors)

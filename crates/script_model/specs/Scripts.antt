@@ -85,6 +85,7 @@ read_parts parts =
     domains declared 1 parts.behind >>> λ others.
     gives (declared, main ∷ others)
 
+-- the place of the first tree; behind the main of a script stand further bodies alone
 abbrev pub first_place : Trees → Option ℕ
 first_place Nil = None
 first_place (And tree row) = Some (place_of tree)
