@@ -22,7 +22,7 @@ mutual
 abbrev pub name_of : Entry → List ℕ
 name_of (File name content) = name
 name_of (Link name target) = name
-name_of (Sub name entries) = name
+name_of (Sub name inner) = name
 
 pub data EntryHead : Type 0 where
   FileHead : EntryHead
