@@ -1,0 +1,61 @@
+//! What the notation means: which bytes spell which tree, which trees are scripts, which words are commands, and how
+//! a refusal is written.
+//!
+//! Everything is defined in `specs/`, on plain lists and numbers, and computes. This file has the small enums that
+//! the definitions share with code.
+#![tactic(auto)]
+
+/// What a byte of a text is, read from the left.
+#[derive(Clone, Copy)]
+pub enum TextByte {
+    /// An item of the text, as the byte that it stands for.
+    Item(u8),
+    /// A backslash, which begins an escape.
+    Backslash,
+    /// The quote that ends the text.
+    Quote,
+    /// No item begins with it, or ends with it behind a backslash.
+    Unsound,
+}
+
+/// A command that words can ask for.
+#[derive(Clone, Copy)]
+pub enum Command {
+    /// Runs a script on one domain, in at most so many steps.
+    Mock(u32),
+    /// Runs a script on its domains, each of at most so many lines.
+    Domains(u32),
+    /// Says whether the input is a script.
+    Check,
+    /// Writes a script in its canonical spelling.
+    Print,
+    /// Runs the generated script of so many forks.
+    Load(u32),
+}
+
+/// A group of forms or commands that is built at one time.
+#[derive(Clone, Copy)]
+pub enum Feature {
+    /// `main`, `switch`, `fork`, `trace` of one or more texts, `yield`; the command `mock` without options.
+    FirstForms,
+    /// The commands `check` and `print`; the options of `mock`.
+    Reading,
+    /// Variables, expressions, exceptions, loops and cancellation.
+    Exceptions,
+    /// The rest of the switches: failures, daemons, release handlers.
+    Switches,
+    /// Groups of fibers: `both`, `all`, `first`, `any`.
+    Groups,
+    /// Streams and promises; the command `load`.
+    StreamsAndPromises,
+    /// Semaphores, mutexes, pools and the clock.
+    Resources,
+    /// Flows, their readers and writers.
+    Flows,
+    /// Directories and paths.
+    Paths,
+    /// The command `domains`.
+    Domains,
+    /// Executors and their jobs.
+    Executors,
+}
