@@ -4,6 +4,7 @@ use Rattle.std.specs.List.{find}
 use Rattle.std.specs.Str.{bytes_eq}
 use Rattle.eio_value.specs.declared.value.TextId.{TextId}
 use Rattle.eio_value.specs.declared.flow_step.FlowStep.{FlowStep}
+use Rattle.eio_value.specs.Directory.{Directory}
 use Rattle.script_model.specs.declared.Feature.{Feature}
 use Rattle.script_model.specs.declared.Feature.TheVariants.{StreamsAndPromises, Resources, Flows, Paths, Executors}
 use Rattle.script_model.specs.Limits.{most_declarations, most_workers, capacities, counts, sizes}
@@ -13,7 +14,7 @@ use Rattle.script_model.specs.Kinds.{Kind, StreamKind, PromiseKind, SemaphoreKin
 use Rattle.script_model.specs.Reads.{Reads, ◌>>>◌, gives, refuses, requires_that, one_form, interned, number_within}
 use Rattle.script_model.specs.Scopes.{Named, named_in}
 use Rattle.script_model.specs.FlowSteps.{steps}
-use Rattle.script_model.specs.Entries.{Entries, entries}
+use Rattle.script_model.specs.Entries.{entries}
 
 pub data Declaration : Type 0 where
   Stream : (capacity : ℕ) → Declaration
@@ -23,7 +24,7 @@ pub data Declaration : Type 0 where
   Pool : (size : ℕ) → Declaration
   Executor : (workers : List ℕ) → Declaration
   Flow : List FlowStep → Declaration
-  Dir : Entries → Declaration
+  Dir : Directory → Declaration
 
 -- ## Words
 

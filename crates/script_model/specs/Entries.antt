@@ -3,23 +3,15 @@
 use Rattle.std.specs.Prelude.{ℕ, Bool, ◌&&◌, ◌==◌, nat_le, not, if◌then◌else◌, List, [], ◌∷◌, length, Option, Some, None, codes}
 use Rattle.std.specs.List.{list_all, list_any}
 use Rattle.std.specs.Str.{bytes_eq}
+use Rattle.eio_value.specs.Directory as directory
+use Rattle.eio_value.specs.Directory.{Item, File, Link, Sub, Directory, Empty}
 use Rattle.script_model.specs.Bytes.{slash}
 use Rattle.script_model.specs.Limits.{most_entry_name_bytes}
 use Rattle.script_model.specs.Trees.{Tree, Word, Text, Branch, Trees, Nil, And, place_of}
 use Rattle.script_model.specs.Faults.{Shape, Twice}
 use Rattle.script_model.specs.Reads.{Reads, ◌>>>◌, gives, refuses, requires_that, one_entry, interned}
 
-mutual
-  pub data Entry : Type 0 where
-    File : (name content : List ℕ) → Entry
-    Link : (name target : List ℕ) → Entry
-    Sub : (name : List ℕ) → Entries → Entry
-
-  pub data Entries : Type 0 where
-    NoEntries : Entries
-    AndEntry : Entry → Entries → Entries
-
-abbrev pub name_of : Entry → List ℕ
+abbrev pub name_of : Item → List ℕ
 name_of (File name content) = name
 name_of (Link name target) = name
 name_of (Sub name inner) = name
@@ -60,16 +52,16 @@ content_of tree = refuses (Shape (place_of tree))
 
 unfoldable mutual
   -- the entries of one directory, behind those of these names
-  pub entries : (before : List (List ℕ)) → Trees → Reads Entries
-  entries before Nil = gives NoEntries
-  entries before (And tree row) = entry before tree >>> λ first. entries (name_of first ∷ before) row >>> λ others. gives (AndEntry first others)
+  pub entries : (before : List (List ℕ)) → Trees → Reads Directory
+  entries before Nil = gives Empty
+  entries before (And tree row) = entry before tree >>> λ first. entries (name_of first ∷ before) row >>> λ others. gives (directory.And first others)
 
-  pub entry : (before : List (List ℕ)) → Tree → Reads Entry
+  pub entry : (before : List (List ℕ)) → Tree → Reads Item
   entry before (Branch at (And (Word place word) items)) = entry_by before at (entry_head word) items
   entry before tree = refuses (Shape (place_of tree))
 
   -- an entry by its word; a `sub` is counted before its entries
-  pub entry_by : (before : List (List ℕ)) → (at : ℕ) → Option EntryHead → Trees → Reads Entry
+  pub entry_by : (before : List (List ℕ)) → (at : ℕ) → Option EntryHead → Trees → Reads Item
   entry_by before at (Some FileHead) (And name (And content Nil)) =
       one_entry at >>> λ _. entry_name before name >>> λ own. content_of content >>> λ bytes. gives (File own bytes)
   entry_by before at (Some LinkHead) (And name (And target Nil)) =

@@ -2,12 +2,15 @@
 -- Of several refusals the first is the answer: the size of the input, its tree, its script, and then the forms that the command
 -- doesn't run. `check` and `print` refuse no form.
 use Rattle.std.specs.Prelude.{ℕ, Bool, true, false, List, codes, Option, Some, None, Result, Ok, Err}
+use Rattle.script_model.specs.declared.Command.{Command}
+use Rattle.script_model.specs.declared.Command.TheVariants as command
 use Rattle.script_model.specs.Trees.{Tree}
 use Rattle.script_model.specs.Results.{◌>>=◌}
 use Rattle.script_model.specs.Features.{Built}
 use Rattle.script_model.specs.Canonical.{document}
 use Rattle.script_model.specs.Refusals.{Refusal, NoScript, MockOnly, DomainOnly, Unbuilt, refusal_line, or_refused, input_tree}
 use Rattle.script_model.specs.Scripts.{Script, script_of}
+use Rattle.script_model.specs.Words.{meaning}
 use Rattle.script_model.specs.RefusedForms.{mock_only, domain_only, unbuilt}
 
 -- the script that an input is
@@ -52,3 +55,13 @@ printed_by (Err refusal) = refused_by refusal
 -- `print` writes the canonical spelling of the script's tree
 unfoldable pub printed : List ℕ → Checked
 printed bytes = printed_by (input_tree bytes)
+
+-- the answer of a command that runs nothing
+abbrev pub checked_for : Command → List ℕ → Option Checked
+checked_for command.Check bytes = Some (checked bytes)
+checked_for command.Print bytes = Some (printed bytes)
+checked_for _ bytes = None
+
+-- what is answered to an input where the words ask for `check` or `print`, and these are built
+unfoldable pub answered : Built → (words : List (List ℕ)) → (bytes : List ℕ) → Option Checked
+answered built words bytes = elim (meaning built words) [ None ↦ None | Some command ↦ checked_for command bytes ]

@@ -25,3 +25,4 @@ pub mod Scripts
 pub mod RefusedForms
 pub mod Opening
 pub mod Inputs
+pub mod Today

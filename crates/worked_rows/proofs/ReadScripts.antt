@@ -4,7 +4,8 @@ use Rattle.std.specs.Prelude.{codes, pos}
 use Rattle.eio_value.specs.Table.{text_id}
 use Rattle.eio_value.specs.declared.flow_step.FlowStep.TheVariants.{Data, Fault, Pause}
 use Rattle.script_model.specs.Syntax.{Expression, NumberValue, TextValue, Variable, Operation, Plus as PlusOperator, NoExpressions, AndExpression, Declared, Opened, Load, Both, Statement, Let, LetForm, Give, Raise, Try, Repeat, Loop, Trace, Yield, Sub, Cancel, Branches, Submit, OpenDir, OnPath, Begins, Statements, Done, Then, NoBlocks, AndBlock}
-use Rattle.script_model.specs.Entries.{NoEntries, AndEntry, File, Link, Sub as SubEntry}
+use Rattle.eio_value.specs.Directory.{Empty, File, Link, Sub as SubEntry}
+use Rattle.eio_value.specs.Directory as directory
 use Rattle.script_model.specs.Declarations.{Stream, Promise, Semaphore, Mutex, Pool, Executor, Flow, Dir}
 use Rattle.worked_rows.specs.Read.{bodies, declarations}
 
@@ -45,6 +46,6 @@ directories : bodies (codes "(eio 1 (mutex m) (dir d) (main (open-dir d \"p\" c 
 unfolding bodies
 directories = refl
 
-each_declaration : declarations (codes "(eio 1 (stream s 2) (promise p) (semaphore m 3) (mutex u) (pool r 4) (executor e 0 1) (flow f (data \"x\") (fault \"y\") (pause)) (dir d (file \"a\" \"b\") (sub \"c\" (link \"l\" \"..\"))) (main) (domain))") ≡ Some (Stream 2 ∷ Promise ∷ Semaphore 3 ∷ Mutex ∷ Pool 4 ∷ Executor (0 ∷ 1 ∷ []) ∷ Flow (Data (codes "x") ∷ Fault (text_id 8) ∷ Pause ∷ []) ∷ Dir (AndEntry (File (codes "a") (codes "b")) (AndEntry (SubEntry (codes "c") (AndEntry (Link (codes "l") (codes "..")) NoEntries)) NoEntries)) ∷ [])
+each_declaration : declarations (codes "(eio 1 (stream s 2) (promise p) (semaphore m 3) (mutex u) (pool r 4) (executor e 0 1) (flow f (data \"x\") (fault \"y\") (pause)) (dir d (file \"a\" \"b\") (sub \"c\" (link \"l\" \"..\"))) (main) (domain))") ≡ Some (Stream 2 ∷ Promise ∷ Semaphore 3 ∷ Mutex ∷ Pool 4 ∷ Executor (0 ∷ 1 ∷ []) ∷ Flow (Data (codes "x") ∷ Fault (text_id 8) ∷ Pause ∷ []) ∷ Dir (directory.And (File (codes "a") (codes "b")) (directory.And (SubEntry (codes "c") (directory.And (Link (codes "l") (codes "..")) Empty)) Empty)) ∷ [])
 unfolding declarations
 each_declaration = refl
