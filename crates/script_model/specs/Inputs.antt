@@ -1,7 +1,7 @@
 -- What an input is to a command, and what `check` and `print` answer to it.
 -- Of several refusals the first is the answer: the size of the input, its tree, its script, and then the forms that the command
 -- doesn't run. `check` and `print` refuse no form.
-use Rattle.std.specs.Prelude.{ℕ, Bool, true, false, List, codes, Option, Some, None, Result, Ok, Err}
+use Rattle.std.specs.Prelude.{ℕ, Bool, true, false, if◌then◌else◌, List, codes, Option, Some, None, Result, Ok, Err}
 use Rattle.script_model.specs.declared.Command.{Command}
 use Rattle.script_model.specs.declared.Command.TheVariants as command
 use Rattle.script_model.specs.Trees.{Tree}
@@ -36,6 +36,10 @@ shared_script built bytes =
 pub record Checked : Type 0 where
   pub text : List ℕ
   pub is_refused : Bool
+
+-- the exit status
+abbrev pub status_of : Checked → ℕ
+status_of it = if it.is_refused then 2 else 0
 
 abbrev pub refused_by : Refusal → Checked
 refused_by refusal = record { text = refusal_line refusal; is_refused = true }
