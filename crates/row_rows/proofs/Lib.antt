@@ -1,0 +1,4 @@
+mod Exceptions
+mod ContextRows
+mod SwitchCalls
+mod SwitchRows
