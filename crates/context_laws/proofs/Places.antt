@@ -10,6 +10,7 @@ left_by_change part (context ∷ contexts) zero (suc x) changed e = refl
 left_by_change part (context ∷ contexts) (suc c) zero changed e = refl
 left_by_change part (context ∷ contexts) (suc c) (suc x) changed e = left_by_change part contexts c x changed e
 
+-- the others stay as they were
 pub others_unchanged : (contexts : List Context) (c x : ℕ) (changed : Context) → (x ≡ c → ⊥) → context_at (slice_set contexts c changed) x ≡ context_at contexts x
 others_unchanged [] c x changed other = refl
 others_unchanged (context ∷ contexts) zero zero changed other = absurd (other refl)
@@ -17,12 +18,13 @@ others_unchanged (context ∷ contexts) zero (suc x) changed other = refl
 others_unchanged (context ∷ contexts) (suc c) zero changed other = refl
 others_unchanged (context ∷ contexts) (suc c) (suc x) changed other = others_unchanged contexts c x changed (λ e. other (ap suc e))
 
--- a live context is changed itself
+-- the changed context itself, where it was made
 pub changed_itself : (contexts : List Context) (c : ℕ) (changed : Context) → c < length contexts → context_at (slice_set contexts c changed) c ≡ changed
 changed_itself [] c changed below = absurd (omega arith)
 changed_itself (context ∷ contexts) zero changed below = refl
 changed_itself (context ∷ contexts) (suc c) changed below = changed_itself contexts c changed (omega arith)
 
+-- once one more was made, the older ones stand where they stood, it stands last, and past it stands none
 pub older_unchanged : (contexts : List Context) (x : ℕ) (made : Context) → x < length contexts → context_at (contexts ++ made ∷ []) x ≡ context_at contexts x
 older_unchanged [] x made below = absurd (omega arith)
 older_unchanged (context ∷ contexts) zero made below = refl

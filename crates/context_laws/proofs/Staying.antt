@@ -18,10 +18,12 @@ pub record Continues (contexts next : List Context) : Type 0 where
 
 -- Who is off stays off
 
+-- where the own reason is unchanged, the reason stays if that from above does
 own_stays : (own : Option Plain) (rest later : Option Plain) (why : Plain) → or_else own rest ≡ Some why → (rest ≡ Some why → later ≡ Some why) → or_else own later ≡ Some why
 own_stays (Some own) rest later why e f = e
 own_stays None rest later why e f = f e
 
+-- the reason from above stays, if it stays there
 above_stays : (contexts next : List Context) → Continues contexts next → (c : ℕ) (why : Plain) → ((p : ℕ) → p < c → off contexts p ≡ Some why → off next p ≡ Some why) → ParentsAreOlder contexts → off_above contexts c ≡ Some why → off_above next c ≡ Some why
 above_stays contexts next step c why stays older e = by (above contexts c) refl e
   where

@@ -88,6 +88,24 @@ switch_fails : struck (Root ∷ Sub 0 ∷ Wait 1 1 ∷ []) 1 ≡ 1 ∷ []
 unfolding after way_within
 switch_fails = refl
 
+-- of two fibers of a switch one raises while the other waits: the other is struck, and is off by the reason of the first
+other_fiber : struck (Root ∷ Sub 0 ∷ Wait 1 2 ∷ []) 1 ≡ 2 ∷ []
+unfolding after way_within
+other_fiber = refl
+
+other_fiber_is_off : reasons (Root ∷ Sub 0 ∷ Wait 1 2 ∷ Cancel 1 (failure 0) ∷ Unwait 2 ∷ []) (0 ∷ 1 ∷ []) ≡ None ∷ Some (failure 0) ∷ []
+unfolding after way_within
+other_fiber_is_off = refl
+
+-- a daemon waits in a context of its own below that of the switch: the switch's cancellation reaches it; once struck, a second one strikes nobody
+daemon_below : struck (Root ∷ Sub 0 ∷ Sub 1 ∷ Wait 2 1 ∷ []) 1 ≡ 1 ∷ []
+unfolding after way_within
+daemon_below = refl
+
+daemon_once : struck (Root ∷ Sub 0 ∷ Sub 1 ∷ Wait 2 1 ∷ Cancel 1 Exit ∷ []) 1 ≡ []
+unfolding after way_within
+daemon_once = refl
+
 -- in order of fiber number, whatever the order of waiting; a fiber above or beside isn't reached
 in_order_of_number : struck (Root ∷ Sub 0 ∷ Sub 1 ∷ Sub 0 ∷ Wait 1 7 ∷ Wait 2 3 ∷ Wait 0 1 ∷ Wait 3 2 ∷ Wait 1 5 ∷ []) 1 ≡ 3 ∷ 5 ∷ 7 ∷ []
 unfolding after way_within
