@@ -1,0 +1,7 @@
+mod Exceptions
+mod ContextRows
+mod GroupRows
+mod ReadyRows
+mod SwitchCalls
+mod SwitchRows
+mod TimerRows
