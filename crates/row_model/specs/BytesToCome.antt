@@ -2,7 +2,7 @@
 -- The bytes to come are the joined data up to the end of the flow or its next fault; how they are cut into steps, and where
 -- pauses stand between, has no part in an answer. An answer takes what it gives from the front of the bytes; an exception takes
 -- nothing. A fault that comes before the answer is raised.
-use Rattle.std.specs.Prelude.{ℕ, ◌+◌, ◌-◌, ℤ, pos, negsuc, Bool, true, false, ◌==◌, not, nat_lt, List, [], ◌∷◌, ◌++◌, length, take, drop, position, Option, Some, None}
+use Rattle.std.specs.Prelude.{ℕ, ◌+◌, ℤ, pos, negsuc, Bool, true, false, ◌==◌, nat_lt, List, [], ◌∷◌, ◌++◌, length, take, drop, position, Option, Some, None}
 use Rattle.eio_value.specs.declared.flow_step.FlowStep.{FlowStep}
 use Rattle.eio_value.specs.declared.flow_step.FlowStep.TheVariants.{Data, Fault, Pause}
 use Rattle.eio_value.specs.declared.value.TextId.{TextId}
@@ -28,7 +28,7 @@ pub record Taken : Type 0 where
   pub item : Item
   pub left : List ℕ
 
--- the first bytes are taken, with those up to `next`
+-- these bytes are given, and those are left
 abbrev pub gives : (given left : List ℕ) → Taken
 gives given left = record { item = Bytes given; left = left }
 
@@ -36,7 +36,7 @@ gives given left = record { item = Bytes given; left = left }
 abbrev pub leaves : Item → (bytes : List ℕ) → Taken
 leaves item bytes = record { item = item; left = bytes }
 
--- these bytes don't decide the call: where nothing comes behind them they are too few
+-- more bytes are asked for than these: they may come, unless the end is behind these
 abbrev pub too_few : (over : Bool) → (bytes : List ℕ) → Taken
 too_few true bytes = leaves EndOfFile bytes
 too_few false bytes = leaves NeedMore bytes

@@ -1,13 +1,14 @@
 -- The calls on paths.
 -- Each is a function of the tree, the capability and its operands. A call that changes the tree gives the tree after it; one
--- that is refused gives none, and the tree stays.
-use Rattle.std.specs.Prelude.{ℕ, Bool, true, false, List, [], ◌∷◌, Option, Some, None, Result, Ok, Err, codes}
+-- that is refused gives none, and the tree stays. `open-dir`, `load`, `save` and `read-dir` follow a last link and so never end
+-- at one; the cases for it are there to have an answer for each end of a walk.
+use Rattle.std.specs.Prelude.{ℕ, true, false, List, [], ◌∷◌, Option, Some, None, Result, Ok, Err, codes}
 use Rattle.eio_value.specs.declared.plain.PathFault.{PathFault}
 use Rattle.eio_value.specs.declared.plain.PathFault.TheVariants.{PermissionDenied, NotFound, AlreadyExists, NotDirectory, IsDirectory, NotEmpty}
 use Rattle.row_model.specs.declared.path_kind.PathKind.{PathKind}
 use Rattle.row_model.specs.declared.path_kind.PathKind.TheVariants as kinds
-use Rattle.row_model.specs.Directories.{Tree, Held, File, Link, Inner, directory_at, held_by, put, dropped, put_directory, removed_directory, names}
-use Rattle.row_model.specs.Walk.{Step, Place, Leads, ToDirectory, ToFile, ToLink, ToNothing, Refused, resolve}
+use Rattle.row_model.specs.Directories.{Tree, File, Link, directory_at, held_by, put, dropped, put_directory, removed_directory, names}
+use Rattle.row_model.specs.Walk.{Step, Leads, ToDirectory, ToFile, ToLink, ToNothing, Refused, resolve}
 
 -- the number of a directory
 abbrev pub opened : Leads → Result ℕ PathFault

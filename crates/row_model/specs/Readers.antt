@@ -1,7 +1,7 @@
 -- Readers: what a reader holds, and what one move of its calls does.
 -- A reader holds the bytes that it has read and not given. A call that they decide makes no read; any other makes one read a
 -- move, and answers in the move whose read first decides it. A reader that was shut answers nothing more.
-use Rattle.std.specs.Prelude.{ℕ, Bool, true, false, List, [], ◌∷◌, ◌++◌, Option, Some, None}
+use Rattle.std.specs.Prelude.{ℕ, Bool, true, false, List, [], ◌++◌, Option, Some, None}
 use Rattle.eio_value.specs.declared.flow_step.FlowStep.{FlowStep}
 use Rattle.eio_value.specs.declared.flow_step.FlowStep.TheVariants.{Data, Fault, Pause}
 use Rattle.eio_value.specs.declared.value.TextId.{TextId}

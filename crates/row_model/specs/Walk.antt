@@ -2,11 +2,11 @@
 -- A path is cut at `/`; empty components and `.` ask for nothing. The walk goes by components and keeps the way down from the
 -- capability, so `..` goes back up that way and never above the capability. The components of a link's target take the link's
 -- place. The first component that fails decides, and no more than 40 links are followed.
-use Rattle.std.specs.Prelude.{ℕ, zero, suc, Bool, true, false, ◌||◌, ◌==◌, not, List, [], ◌∷◌, ◌++◌, filter, bytes_eq, Option, Some, None}
+use Rattle.std.specs.Prelude.{ℕ, zero, suc, Bool, true, false, ◌||◌, ◌==◌, not, List, [], ◌∷◌, ◌++◌, filter, bytes_eq, Some, None}
 use Rattle.std.specs.List.{slice_split}
 use Rattle.eio_value.specs.declared.plain.PathFault.{PathFault}
 use Rattle.eio_value.specs.declared.plain.PathFault.TheVariants.{PermissionDenied, NotFound, NotDirectory, TooManyLinks}
-use Rattle.row_model.specs.Directories.{Tree, Held, File, Link, Inner, directory_at, held_by}
+use Rattle.row_model.specs.Directories.{Tree, File, Link, Inner, directory_at, held_by}
 
 -- a component that asks for nothing: an empty one, or `.`
 abbrev pub asks_nothing : List ℕ → Bool

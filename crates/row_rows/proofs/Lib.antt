@@ -1,0 +1,7 @@
+mod ReaderRows
+mod ReaderMoves
+mod WriterRows
+mod PathRows
+mod WalkRows
+mod LinkRows
+mod RemovedRows
