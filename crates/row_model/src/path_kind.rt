@@ -1,7 +1,7 @@
 //! What stands at a path.
 
 /// What stands at a path.
-#[derive(Clone, Copy, Debug, PartialEq, Eq)]
+#[derive(Clone, Copy, Debug)]
 pub enum PathKind {
     File,
     Dir,
