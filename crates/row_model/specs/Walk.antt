@@ -83,7 +83,7 @@ along tree follow by_link place (name ∷ rest) = elim (is_up name) [
   ]
 ]
 
--- the components of a path go before those that are left; none of them may begin at a root
+-- the components of a path go before those that are left; a path that begins with `/` is refused
 abbrev pub onto : (path : List ℕ) → (rest : List (List ℕ)) → (List (List ℕ) → Leads) → Leads
 onto path rest on = elim (is_absolute path) [ true ↦ Refused PermissionDenied | false ↦ on (components path ++ rest) ]
 
