@@ -5,3 +5,10 @@ pub mod Groups
 pub mod ReadyList
 pub mod Switches
 pub mod Timers
+pub mod BytesToCome
+pub mod Directories
+pub mod Flows
+pub mod PathCalls
+pub mod Readers
+pub mod Walk
+pub mod Writers

@@ -5,3 +5,10 @@ mod ReadyRows
 mod SwitchCalls
 mod SwitchRows
 mod TimerRows
+mod ReaderRows
+mod ReaderMoves
+mod WriterRows
+mod PathRows
+mod WalkRows
+mod LinkRows
+mod RemovedRows

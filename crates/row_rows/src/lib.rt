@@ -1,4 +1,5 @@
-//! Worked rows of `row_model`: lists of calls with what they answer and leave, computed by the prover in `proofs/`.
+//! Worked rows of `row_model`: lists of calls with what they answer and leave, run by the prover on the definitions.
 //!
-//! Nothing stands on this crate. A false row fails its check.
+//! Each row is a lemma of `proofs/`, proved by computing its left side. A row that is false fails the check. Nothing stands on
+//! this crate; the answers were worked out by hand.
 #![tactic(auto)]

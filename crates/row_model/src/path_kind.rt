@@ -1,0 +1,9 @@
+//! What stands at a path.
+
+/// What stands at a path.
+#[derive(Clone, Copy, Debug)]
+pub enum PathKind {
+    File,
+    Dir,
+    Link,
+}
