@@ -1,0 +1,11 @@
+pub mod Data
+pub mod Executors
+pub mod Mutexes
+pub mod Objects
+pub mod Pools
+pub mod Promises
+pub mod ResumeWords
+pub mod Row
+pub mod Semaphores
+pub mod Streams
+pub mod Strikes
