@@ -1,13 +1,3 @@
-// A library with one function.
+//! Worked rows of the shared objects and the resume words: sequences of calls with what has to come of them, computed by the prover from the
+//! definitions of `row_model`. They are private lemmas in `proofs/`, one file a subject; nothing stands on this crate.
 #![tactic(auto)]
-
-ghost use Rattle.std.specs.Prelude.{◌≡◌};
-ghost use Rattle.row_rows.specs.Echo.{echo_of};
-
-// The `ensures` clause is the contract: what `echo` returns is `echo_of` of its argument, a definition
-// in `specs/Echo.antt`, which a caller's clause can cite too.
-pub fn echo(x: usize) -> usize
-    ensures { result ≡ echo_of x }
-{
-    x
-}
