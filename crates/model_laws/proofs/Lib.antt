@@ -1,0 +1,3 @@
+mod Choices
+mod Items
+mod Offs
