@@ -1,3 +1,4 @@
+pub mod Alike
 mod Choices
 mod Items
 mod Offs

@@ -5,6 +5,7 @@
 
 ghost use Rattle.model_laws.specs.Items.{ItemsInOrder};
 ghost use Rattle.model_laws.specs.Offs.{OffLeaves};
+ghost use Rattle.model_laws.specs.Skips.{SkipsAlike};
 
 /// A call on a shared object that answers `Off` leaves the object as it was and wakes nobody, and its
 /// context is off: so a call that is cancelled before it waits has done nothing.
@@ -16,4 +17,10 @@ pub fn off_leaves()
 /// are those that were taken, in order, and then those that it holds.
 pub fn items_in_order()
     ensures { ItemsInOrder }
+{}
+
+/// A call answers and sends the same on an object with some waiters too many, and leaves the same object but for
+/// them, as long as it neither wakes one of them nor enters one.
+pub fn skips_alike()
+    ensures { SkipsAlike }
 {}
