@@ -1,3 +1,14 @@
+pub mod Data
+pub mod Row
+pub mod Streams
+pub mod Promises
+pub mod Semaphores
+pub mod Mutexes
+pub mod Pools
+pub mod Executors
+pub mod Objects
+pub mod Strikes
+pub mod ResumeWords
 pub mod Contexts
 pub mod ContextCalls
 pub mod Errors

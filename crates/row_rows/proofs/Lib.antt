@@ -1,3 +1,11 @@
+mod Moves
+mod Streams
+mod Promises
+mod Semaphores
+mod Mutexes
+mod Pools
+mod Executors
+mod ResumeWords
 mod Exceptions
 mod ContextRows
 mod GroupRows

@@ -1,0 +1,4 @@
+pub mod Alike
+mod Choices
+mod Items
+mod Offs

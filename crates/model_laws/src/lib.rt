@@ -1,0 +1,26 @@
+//! Laws of the definitions, each as the contract of an empty public function.
+//!
+//! A law is stated in `specs/`, and what proves it stands in the file of `proofs/` that bears its name.
+#![tactic(auto)]
+
+ghost use Rattle.model_laws.specs.Items.{ItemsInOrder};
+ghost use Rattle.model_laws.specs.Offs.{OffLeaves};
+ghost use Rattle.model_laws.specs.Skips.{SkipsAlike};
+
+/// A call on a shared object that answers `Off` leaves the object as it was and wakes nobody, and its
+/// context is off: so a call that is cancelled before it waits has done nothing.
+pub fn off_leaves()
+    ensures { OffLeaves }
+{}
+
+/// Whatever fibers call on a stream and whichever are struck: the items that it has accepted, in order,
+/// are those that were taken, in order, and then those that it holds.
+pub fn items_in_order()
+    ensures { ItemsInOrder }
+{}
+
+/// A call answers and sends the same on an object with some waiters too many, and leaves the same object but for
+/// them, as long as it neither wakes one of them nor enters one.
+pub fn skips_alike()
+    ensures { SkipsAlike }
+{}
