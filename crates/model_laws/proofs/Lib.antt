@@ -1,4 +1,8 @@
+pub mod Choices
 pub mod Alike
-mod Choices
-mod Items
-mod Offs
+pub mod Offs
+pub mod Items
+pub mod Places
+pub mod Walks
+pub mod Staying
+pub mod Cancelling

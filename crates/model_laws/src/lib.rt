@@ -3,6 +3,7 @@
 //! A law is stated in `specs/`, and what proves it stands in the file of `proofs/` that bears its name.
 #![tactic(auto)]
 
+ghost use Rattle.model_laws.specs.Contexts.{CancelsBelow, OffStays, OffWalksUp, ProtectedIsShut};
 ghost use Rattle.model_laws.specs.Items.{ItemsInOrder};
 ghost use Rattle.model_laws.specs.Offs.{OffLeaves};
 ghost use Rattle.model_laws.specs.Skips.{SkipsAlike};
@@ -23,4 +24,25 @@ pub fn items_in_order()
 /// them, as long as it neither wakes one of them nor enters one.
 pub fn skips_alike()
     ensures { SkipsAlike }
+{}
+
+/// A context is off by its own reason; else, where it isn't protected and has a parent, as its parent is.
+pub fn off_walks_up()
+    ensures { OffWalksUp }
+{}
+
+/// A context that is off stays off, by the same reason, after any further calls.
+pub fn off_stays()
+    ensures { OffStays }
+{}
+
+/// A cancellation that takes effect has those contexts off that go up to the cancelled one through contexts that aren't
+/// protected, by its reason, and leaves all others as they were.
+pub fn cancels_below()
+    ensures { CancelsBelow }
+{}
+
+/// A protected context isn't reached from above: it goes up to itself alone, and is off only by its own reason.
+pub fn protected_is_shut()
+    ensures { ProtectedIsShut }
 {}

@@ -5,10 +5,10 @@ use Rattle.std.specs.Prelude.{is_none}
 use Rattle.std.proofs.lemmas.Bool.Decides.{eqb_tells}
 use Rattle.eio_value.specs.declared.plain.Plain.{Plain}
 use Rattle.row_model.specs.Contexts.{Context, context_at, above, off, goes_up_to, is_live, takes_effect, cancel}
-use Rattle.context_laws.specs.Laws.{or_else, off_above, off_then}
-use Rattle.context_laws.proofs.Places.{others_unchanged, changed_itself, past_all}
-use Rattle.context_laws.proofs.Walks.{ParentsAreOlder, above_is_parent, off_walks, goes_up_walks}
-use Rattle.context_laws.proofs.Staying.{Continues, cancel_step, not_off, same_above, below_or_past}
+use Rattle.model_laws.specs.Contexts.{or_else, off_above, off_then}
+use Rattle.model_laws.proofs.Places.{others_unchanged, changed_itself, past_all}
+use Rattle.model_laws.proofs.Walks.{ParentsAreOlder, above_is_parent, off_walks, goes_up_walks}
+use Rattle.model_laws.proofs.Staying.{Continues, cancel_step, not_off, same_above, below_or_past}
 
 -- the context with the reason of a cancellation, and the contexts with it
 abbrev cancelled : List Context → ℕ → Plain → Context

@@ -6,9 +6,9 @@ use Rattle.std.proofs.lemmas.Option.{none-some}
 use Rattle.eio_value.specs.declared.plain.Plain.{Plain}
 use Rattle.row_model.specs.Contexts.{Context, context_at, new_context, is_full, is_live, above, off, takes_effect, cancel, Made, make, end}
 use Rattle.row_model.specs.ContextCalls.{Contexts, no_contexts, ContextCall, Root, Sub, Protect, Cancel, Wait, Unwait, End, called, after, IsCallable, AreCallable}
-use Rattle.context_laws.specs.Laws.{or_else, off_above}
-use Rattle.context_laws.proofs.Places.{left_by_change, others_unchanged, older_unchanged, made_last, past_all}
-use Rattle.context_laws.proofs.Walks.{ParentsAreOlder, above_is_parent, off_walks}
+use Rattle.model_laws.specs.Contexts.{or_else, off_above}
+use Rattle.model_laws.proofs.Places.{left_by_change, others_unchanged, older_unchanged, made_last, past_all}
+use Rattle.model_laws.proofs.Walks.{ParentsAreOlder, above_is_parent, off_walks}
 
 -- from one list of contexts to the next
 pub record Continues (contexts next : List Context) : Type 0 where

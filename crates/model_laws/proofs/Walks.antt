@@ -4,7 +4,7 @@ use Rattle.std.specs.List.{list_any}
 use Rattle.std.proofs.lemmas.Option.{none-some}
 use Rattle.eio_value.specs.declared.plain.Plain.{Plain}
 use Rattle.row_model.specs.Contexts.{Context, context_at, above, way_within, way_up, first_reason, off, goes_up_to}
-use Rattle.context_laws.specs.Laws.{or_else, off_above, IsShut}
+use Rattle.model_laws.specs.Contexts.{or_else, off_above, IsShut}
 
 -- each parent is older than its child
 abbrev pub ParentsAreOlder : List Context → Type 0

@@ -1,4 +1,0 @@
-pub mod Places
-pub mod Walks
-pub mod Staying
-pub mod Cancelling

@@ -1,5 +1,0 @@
-use Rattle.context_laws.proofs.Walks.{protected_is_shut}
-use Rattle.context_laws.proofs.protected_is_shut.Goals as goal
-
-pub returns : goal.returns
-returns c = protected_is_shut
