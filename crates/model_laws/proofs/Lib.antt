@@ -2,3 +2,4 @@ pub mod Alike
 mod Choices
 mod Items
 mod Offs
+mod Waits

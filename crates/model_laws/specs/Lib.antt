@@ -1,3 +1,4 @@
 pub mod Items
 pub mod Offs
 pub mod Skips
+pub mod Waits
