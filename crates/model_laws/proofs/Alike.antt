@@ -10,7 +10,7 @@ use Rattle.row_model.specs.Row.{Row, Queued, Side, Takers, Adders, Alone, Keeps,
 use Rattle.model_laws.specs.Skips.{TouchesNone, only_stepped, SkipsAlike}
 
 -- those of a list that stay
-abbrev only : (Waiter → Bool) → List Queued → List Queued
+abbrev pub only : (Waiter → Bool) → List Queued → List Queued
 only stays list = filter (λ queued. stays queued.who) list
 
 -- Filters

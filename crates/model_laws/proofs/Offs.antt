@@ -1,4 +1,4 @@
--- No call keeps the turn with `Off`, nor hands anything over with it: so `Off` comes only from a wait, which leaves the row.
+-- No call that answers at once or hands something over answers `Off`: so `Off` comes only from a wait, which leaves the row.
 use Rattle.std.proofs.Common.{◌≡◌, ℕ, zero, suc, ◌+◌, ◌==◌, Bool, true, false, nat_lt, length, List, [], ◌∷◌, ◌++◌, Option, Some, None, refl, sym, ap, ◌∙◌, true≢false}
 use Rattle.std.specs.Prelude.{find}
 use Rattle.std.specs.List.{last_or}

@@ -29,7 +29,7 @@ abbrev pub answered : Answer → List Value
 answered (answer.Done value) = value ∷ []
 answered other = []
 
--- these items where the answer is one that a call keeps the turn with
+-- these items where the answer is a value
 abbrev pub if_done : Answer → List Value → List Value
 if_done (answer.Done value) given = given
 if_done other given = []

@@ -1,4 +1,5 @@
 pub mod Offs
 pub mod Items
 pub mod Skips
+pub mod Waits
 pub mod Contexts

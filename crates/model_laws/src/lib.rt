@@ -7,6 +7,7 @@ ghost use Rattle.model_laws.specs.Contexts.{CancelsBelow, OffStays, OffWalksUp, 
 ghost use Rattle.model_laws.specs.Items.{ItemsInOrder};
 ghost use Rattle.model_laws.specs.Offs.{OffLeaves};
 ghost use Rattle.model_laws.specs.Skips.{SkipsAlike};
+ghost use Rattle.model_laws.specs.Waits.{CallsKeepCells, LateStrikesDoNothing, StrikesKeepCells};
 
 /// A call on a shared object that answers `Off` leaves the object as it was and wakes nobody, and its
 /// context is off: so a call that is cancelled before it waits has done nothing.
@@ -24,6 +25,18 @@ pub fn items_in_order()
 /// them, as long as it neither wakes one of them nor enters one.
 pub fn skips_alike()
     ensures { SkipsAlike }
+{}
+
+/// A cell that stands in an object at most once does so after each call and each strike. In an object as declared
+/// no cell stands.
+pub fn cells_stand_once()
+    ensures calls { CallsKeepCells }
+    ensures strikes { StrikesKeepCells }
+{}
+
+/// A strike on a fiber that doesn't wait leaves the object as it was.
+pub fn late_strikes_do_nothing()
+    ensures { LateStrikesDoNothing }
 {}
 
 /// A context is off by its own reason; else, where it isn't protected and has a parent, as its parent is.

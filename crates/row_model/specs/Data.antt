@@ -1,4 +1,4 @@
--- What a shared object holds, beside the fibers that wait for it. Lists are oldest first, but where a rule says otherwise.
+-- What a shared object holds, beside the fibers that wait for it. Lists are oldest first; workers stand in order of choice.
 use Rattle.std.specs.Prelude.{ℕ, List, Option}
 use Rattle.eio_value.specs.declared.message.Job.{Job}
 use Rattle.eio_value.specs.declared.raised.Outcome.{Outcome}
@@ -30,7 +30,8 @@ pub record Work : Type 0 where
   pub workers : List Worker
   pub running : List Running
 
--- of a pool: its size, how many resources were made (they are the numbers below), and those that nobody uses, the one put back last at the end
+-- a stream has its capacity and its items; a promise its outcome, once it is resolved; a semaphore its count; a mutex whether it is free; a pool its size,
+-- how many resources were made, which are the numbers below that, and those that nobody uses, the one put back last at the end; an executor its jobs and workers
 pub data Data : Type 0 where
   Stream : (capacity : ℕ) → (items : List Value) → Data
   Promise : Option Outcome → Data

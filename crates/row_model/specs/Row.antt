@@ -2,7 +2,7 @@
 -- A row has the object's data and two lists of fibers, oldest first: takers wait to get something, adders wait to give something. Only waiting
 -- fibers stand in them, and no cell stands in a row twice.
 -- A call ignores who waits, or looks at one of the lists. There it takes the first fiber that it is for, hands it an outcome, and that fiber is woken.
--- Where it looks at nobody, or finds nobody, it keeps the turn and answers, or it would wait. A call that would wait where the caller's context is off
+-- Where it looks at nobody, or finds nobody, it answers at once, or it would wait. A call that would wait where the caller's context is off
 -- answers `Off` and leaves the row. Else its fiber is entered at the end of a list; an older entry of the fiber's cell is removed first.
 use Rattle.std.specs.Prelude.{ℕ, Bool, true, false, ◌==◌, not, List, [], ◌∷◌, ◌++◌, pos, filter, find, Option, Some, None}
 use Rattle.eio_value.specs.declared.call.Answer.{Answer}
@@ -29,7 +29,7 @@ pub record Row : Type 0 where
   pub takers : List Queued
   pub adders : List Queued
 
--- one of the two lists
+-- one of the two lists: who waits to get something, who waits to give something
 pub data Side : Type 0 where
   Takers : Side
   Adders : Side
@@ -45,7 +45,7 @@ pub data Sent : Type 0 where
   Resumes : Waiter → Outcome → Sent
   Starts : Start → Sent
 
--- what a call does where it looks at nobody or finds nobody: it keeps the turn, with the data after, its answer and the job that starts;
+-- what a call does where it looks at nobody or finds nobody: it answers at once, with the data after, its answer and the job that starts;
 -- or it waits, with the data after, its list, its item and the number of its job
 pub data Alone : Type 0 where
   Keeps : Data → Answer → Option Start → Alone
@@ -74,7 +74,7 @@ pub record Stepped : Type 0 where
 abbrev pub anybody : Queued → Bool
 anybody queued = true
 
--- the call keeps the turn and starts no job
+-- the call answers at once and starts no job
 abbrev pub quiet : Data → Answer → Alone
 quiet values answer = Keeps values answer None
 

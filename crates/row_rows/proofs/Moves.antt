@@ -45,7 +45,7 @@ pub data Told : Type 0 where
   Won : Told
   Lost : Told
 
--- the call keeps the turn or waits
+-- the call answers with this value
 abbrev pub gives : Value → Told
 gives value = Says (answer.Done value)
 
