@@ -91,3 +91,10 @@ own_submitter :
     ≡ ran (waits ∷ waits ∷ starts 0 0 10 ∷ starts 0 1 20 ∷ fine_and 2 (number 5) ∷ fine_and 1 (number 6) ∷ Lost ∷ none ∷ [])
     (left (record { most = 8; queued = []; submitted = 2; workers = worker 0 0 0 ∷ []; running = [] }) [])
 own_submitter = refl
+
+-- a job that ends frees its own weight, and not that of the others of its worker
+own_weight :
+    run (executor 8 (0 ∷ [])) (submitting 1 60 ∷ submitting 2 30 ∷ starting ∷ starting ∷ finishing 0 5 ∷ submitting 3 80 ∷ starting ∷ [])
+    ≡ ran (waits ∷ waits ∷ starts 0 0 60 ∷ starts 0 1 30 ∷ fine_and 1 (number 5) ∷ waits ∷ none ∷ [])
+    (left (record { most = 8; queued = waiting_job 2 80 ∷ []; submitted = 3; workers = worker 0 0 30 ∷ []; running = running 1 30 0 ∷ [] }) (submitter 2 1 ∷ submitter 3 2 ∷ []))
+own_weight = refl

@@ -44,6 +44,10 @@ adders_move_up :
     ≡ ran (fine ∷ waits ∷ waits ∷ gives (int 1) ∷ gives_and (int 1) 1 unit ∷ gives_and (int 2) 2 unit ∷ gives (int 3) ∷ waits ∷ []) (row (Stream 1 []) (waiting 0 ∷ []) [])
 adders_move_up = refl
 
+-- behind the items that are there
+adder_moves_up_last : run (stream 2) (adding 0 1 ∷ adding 0 2 ∷ adding 1 3 ∷ taking 0 ∷ taking 0 ∷ taking 0 ∷ []) ≡ ran (fine ∷ fine ∷ waits ∷ gives_and (int 1) 1 unit ∷ gives (int 2) ∷ gives (int 3) ∷ []) (stream 2)
+adder_moves_up_last = refl
+
 items_leave_in_order : run (stream 3) (adding 0 1 ∷ adding 0 2 ∷ adding 0 3 ∷ taking 0 ∷ length ∷ by 0 (TakeNonblocking 0) ∷ []) ≡ ran (fine ∷ fine ∷ fine ∷ gives (int 1) ∷ gives (int 2) ∷ gives (int 2) ∷ []) (row (Stream 3 (int 3 ∷ [])) [] [])
 items_leave_in_order = refl
 
