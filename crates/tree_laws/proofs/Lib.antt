@@ -1,0 +1,5 @@
+pub mod Steps
+pub mod Gaps
+pub mod Texts
+pub mod Numbers
+pub mod Runs
