@@ -3,3 +3,5 @@ pub mod Gaps
 pub mod Texts
 pub mod Numbers
 pub mod Runs
+pub mod Read
+pub mod Back
