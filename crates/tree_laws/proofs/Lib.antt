@@ -5,3 +5,4 @@ pub mod Numbers
 pub mod Runs
 pub mod Read
 pub mod Back
+pub mod Canonical
