@@ -1,9 +1,9 @@
 -- What is spelled is read (`spelled_is_read`). By induction on the lists that may be open, and in a list on the fuel: each of
 -- its trees takes a byte, so the fuel lasts.
-use Rattle.std.proofs.Common.{◌≡◌, ◌≢◌, ◌≤◌, ◌<◌, ◌⊎◌, inl, inr, ℕ, zero, suc, ◌+◌, Bool, true, false, ◌&&◌, ◌||◌, ◌==◌, nat_le, List, [], ◌∷◌, ◌++◌, length, Option, None, Result, Ok, Err, IsTrue, refl, sym, ap, ◌∙◌, subst, append_assoc, length-append, arith}
+use Rattle.std.proofs.Common.{◌≡◌, ◌≤◌, ◌<◌, inl, inr, ℕ, zero, suc, ◌+◌, Bool, true, false, ◌==◌, nat_le, List, [], ◌∷◌, ◌++◌, length, None, Result, Ok, Err, refl, sym, ap, ◌∙◌, subst, append_assoc, length-append, arith}
 use Rattle.std.specs.List.{list_all, flat_map}
 use Rattle.std.specs.Fmt.{signed_decimal}
-use Rattle.std.proofs.lemmas.Bool.{and_parts, and_from, false≢true, leb-true, false_from_ne_true}
+use Rattle.std.proofs.lemmas.Bool.{and_parts, leb-true, false_from_ne_true}
 use Rattle.std.proofs.lemmas.Bool.Decides.{nat_tests}
 use Rattle.script_model.specs.Results.{◌>>=◌}
 use Rattle.script_model.specs.Bytes.{quote, open_paren, close_paren, semicolon, is_gap_byte, is_run_byte}
@@ -12,7 +12,8 @@ use Rattle.script_model.specs.Trees.{Tree, Word, Number, Text, Branch, Trees, Ni
 use Rattle.script_model.specs.Spelling.{IsGap, IsLastGap, item_spelling, is_word, is_text, text_spelling, Spells, SpellsRow, IsDocument}
 use Rattle.script_model.specs.Faults as fault
 use Rattle.script_model.specs.Faults.{TreeFault}
-use Rattle.script_model.specs.Reading.{Here, here, gap_step, past_gap, Items, text_items, run_tree, Found, found, Row, with_tree, Start, Runs, start_of, tree_by, trees_by, list_by, tree_at, alone, reading}
+use Rattle.script_model.specs.Reading.{Here, here, gap_step, past_gap, Items, text_items, run_tree, Found, found, Row, with_tree, Runs, start_of, tree_by, trees_by, list_by, tree_at, alone, reading}
+use Rattle.tree_laws.proofs.Steps.{Reader}
 use Rattle.tree_laws.proofs.Gaps.{Stops, stops_at, gap_back, last_gap_back}
 use Rattle.tree_laws.proofs.Texts.{may_stand, text_back}
 use Rattle.tree_laws.proofs.Numbers.{number_back}
@@ -94,9 +95,6 @@ row_after_run lists at bytes rest (And tree row) h =
     ∙ gap_then h.0 (h.1 ++ tail) h.4 (λ none. own_first h.1 tail tree (own_begins lists (at + length h.0) h.1 tree h.6) ∙ false_from_ne_true (is_run tree) (λ one. h.5 one none))
 
 -- ## Trees
-
-abbrev Reader : Type 0
-Reader = ℕ → List ℕ → Result Found TreeFault
 
 -- a tree is read from its spelling, where a run is a whole one
 abbrev IsBack : (Here → Result Found TreeFault) → (at : ℕ) (own rest : List ℕ) → Tree → Type 0
@@ -198,7 +196,7 @@ rows_back lists tree_here back (suc most) paren at next inner rest (And tree row
     ∙ (own_comes tree_here most paren p own tail tree begins
     ∙ (ap (λ (r : Result Found TreeFault). r >>= λ first. trees_by tree_here most paren (past_gap false first.next.at first.next.bytes) >>= λ others. Ok (with_tree first.tree others)) (back p own tail tree h.6 ends)
     ∙ ap (λ (r : Result Row TreeFault). r >>= λ others. Ok (with_tree tree others))
-      (rows_back lists tree_here back most paren (p + length own) next others rest row (is_run tree) h.7 (omega arith) (omega arith))))
+    (rows_back lists tree_here back most paren (p + length own) next others rest row (is_run tree) h.7 (omega arith) (omega arith))))
 
 branch_back : (lists : ℕ) (tree_here : Here → Result Found TreeFault) → TreesBack lists tree_here → (at : ℕ) (inner rest : List ℕ) (row : Trees) → SpellsRow lists (at + 1) inner row false →
     IsBack (tree_by (list_by tree_here)) at (open_paren ∷ (inner ++ close_paren ∷ [])) rest (Branch at row)

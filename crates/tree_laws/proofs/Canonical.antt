@@ -1,4 +1,5 @@
--- The canonical spelling spells the tree with the places that it has there (`canonical_is_read`).
+-- The canonical spelling spells the tree with the places that it has there (`canonical_is_read`); it hangs on no place
+-- (`canonical_has_no_places`). What is spelled is within the limits (`read_is_within`).
 use Rattle.std.proofs.Common.{◌≡◌, ℕ, zero, suc, ◌+◌, inl, Bool, false, List, [], ◌∷◌, ◌++◌, length, Ok, refl, sym, ap, ◌∙◌}
 use Rattle.std.proofs.lemmas.Bool.{false≢true}
 use Rattle.script_model.specs.Bytes.{line_feed, space, close_paren, open_paren}
@@ -31,6 +32,7 @@ abbrev mutual
 
 mutual
   unfolding canonical canonical_row canonical_rest IsWithin AreWithin
+
   placed_spells : (lists at : ℕ) (tree : Tree) → IsWithin lists tree → Spells lists at (canonical tree) (placed at tree)
   placed_spells lists at (Word place word) h = (refl, refl, h)
   placed_spells lists at (Number place z) h = (refl, refl, h)
@@ -41,15 +43,27 @@ mutual
   row_spells : (lists at : ℕ) (row : Trees) → AreWithin lists row → SpellsRow lists at (canonical_row row) (placed_row at row) false
   row_spells lists at Nil h = tt
   row_spells lists at (And tree rest) h = (
-    [], canonical tree, canonical_rest rest, refl, tt, λ both none. false≢true both,
-    placed_spells lists (at + 0) tree h.0, rest_spells lists (at + 0 + length (canonical tree)) rest (is_run (placed (at + 0) tree)) h.1
+    [],
+    canonical tree,
+    canonical_rest rest,
+    refl,
+    tt,
+    λ both none. false≢true both,
+    placed_spells lists (at + 0) tree h.0,
+    rest_spells lists (at + 0 + length (canonical tree)) rest (is_run (placed (at + 0) tree)) h.1,
   )
 
   rest_spells : (lists at : ℕ) (rest : Trees) (behind_run : Bool) → AreWithin lists rest → SpellsRow lists at (canonical_rest rest) (placed_rest at rest) behind_run
   rest_spells lists at Nil behind_run h = tt
   rest_spells lists at (And tree rest) behind_run h = (
-    space ∷ [], canonical tree, canonical_rest rest, refl, inl (refl, tt), λ both none. cc,
-    placed_spells lists (at + 1) tree h.0, rest_spells lists (at + 1 + length (canonical tree)) rest (is_run (placed (at + 1) tree)) h.1
+    space ∷ [],
+    canonical tree,
+    canonical_rest rest,
+    refl,
+    inl (refl, tt),
+    λ both none. cc,
+    placed_spells lists (at + 1) tree h.0,
+    rest_spells lists (at + 1 + length (canonical tree)) rest (is_run (placed (at + 1) tree)) h.1,
   )
 
 both_same : {one other : Tree} {row others : Trees} → one ≡ other → row ≡ others → And one row ≡ And other others
@@ -57,6 +71,7 @@ both_same e h = cc
 
 mutual
   unfolding bare bare_row
+
   placed_same : (at : ℕ) (tree : Tree) → bare (placed at tree) ≡ bare tree
   placed_same at (Word place word) = refl
   placed_same at (Number place z) = refl
@@ -83,6 +98,7 @@ canonical_is_read tree h = record {
 
 mutual
   unfolding IsWithin AreWithin
+
   spelled_within : (lists at : ℕ) (own : List ℕ) (tree : Tree) → Spells lists at own tree → IsWithin lists tree
   spelled_within lists at own (Word place word) h = h.2
   spelled_within lists at own (Number place z) h = h.2
@@ -105,6 +121,7 @@ joined e h = cc
 
 mutual
   unfolding canonical canonical_row canonical_rest bare bare_row
+
   bare_spelling : (tree : Tree) → canonical (bare tree) ≡ canonical tree
   bare_spelling (Word at word) = refl
   bare_spelling (Number at z) = refl

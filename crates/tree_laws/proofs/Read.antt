@@ -1,17 +1,17 @@
 -- What is read is spelled there (`read_is_spelled`). By induction on the lists that may be open, and in a list on its fuel.
-use Rattle.std.proofs.Common.{◌≡◌, ◌≤◌, ◌<◌, ℕ, zero, suc, ◌+◌, Bool, true, false, cond, ◌&&◌, ◌==◌, List, [], ◌∷◌, ◌++◌, length, Result, Ok, Err, IsTrue, refl, sym, ap, ◌∙◌, subst, append_assoc, length-append, arith}
+use Rattle.std.proofs.Common.{◌≡◌, ℕ, zero, suc, ◌+◌, Bool, true, false, cond, ◌&&◌, ◌==◌, List, [], ◌∷◌, ◌++◌, length, Result, Ok, Err, refl, sym, ap, ◌∙◌, subst, append_assoc, length-append, arith}
 use Rattle.std.specs.List.{flat_map}
 use Rattle.std.proofs.lemmas.Bool.{and_parts, and_from, eqb-true, false≢true, le-leb}
 use Rattle.std.proofs.lemmas.List.{append-nil}
 use Rattle.script_model.specs.Results.{◌>>=◌}
 use Rattle.script_model.specs.Bytes.{quote, open_paren, close_paren, is_run_byte}
 use Rattle.script_model.specs.Limits.{most_open_lists}
-use Rattle.script_model.specs.Trees.{Tree, Word, Number, Text, Branch, Trees, Nil, And, is_run}
+use Rattle.script_model.specs.Trees.{Tree, Text, Branch, Nil, is_run}
 use Rattle.script_model.specs.Spelling.{IsGap, IsLastGap, item_spelling, text_spelling, Spells, SpellsRow, IsDocument}
 use Rattle.script_model.specs.Faults as fault
 use Rattle.script_model.specs.Faults.{TreeFault}
-use Rattle.script_model.specs.Reading.{Here, here, past_gap, Items, Found, found, Row, with_tree, Start, Opens, Closes, Quotes, Runs, Strange, start_of, text_at, text_items, run_at, tree_by, Going, InputEnds, ListEnds, TreeComes, going_of, trees_by, list_by, tree_at, alone, reading}
-use Rattle.tree_laws.proofs.Steps.{same_Ok, err-ok, both_gave}
+use Rattle.script_model.specs.Reading.{Here, here, past_gap, Items, Found, found, Row, with_tree, Start, Opens, Closes, Quotes, Runs, Strange, start_of, text_at, text_items, run_at, tree_by, InputEnds, ListEnds, TreeComes, trees_by, list_by, tree_at, alone, reading}
+use Rattle.tree_laws.proofs.Steps.{same_Ok, err-ok, both_gave, Reader}
 use Rattle.tree_laws.proofs.Gaps.{IsSkipped, gap_sound}
 use Rattle.tree_laws.proofs.Texts.{IsTextRead, text_sound}
 use Rattle.tree_laws.proofs.Runs.{begins_run, IsRead, run_sound}
@@ -62,9 +62,6 @@ start_by b false false false false o-is c-is q-is r-is = tt
 
 start_is : (b : ℕ) → StartsWith b (start_of b)
 start_is b = start_by b _ _ _ _ refl refl refl refl
-
-abbrev Reader : Type 0
-Reader = ℕ → List ℕ → Result Found TreeFault
 
 -- what it says that a reader of trees, and one of what follows a `(`, finds what is spelled
 abbrev TreesSound : (lists : ℕ) → (Here → Result Found TreeFault) → Type 0
@@ -131,14 +128,18 @@ row_more lists at p bytes rest behind_run first others ends skip whole it row =
     record {
       inner = inner;
       spelling = skip.spelling
-        ∙ (ap (λ (bs : List ℕ). gap ++ bs) (it.spelling ∙ (ap (λ (bs : List ℕ). it.own ++ bs) row.spelling ∙ sym (append_assoc it.own row.inner tail)))
-        ∙ sym (append_assoc gap (it.own ++ row.inner) tail));
+          ∙ (ap (λ (bs : List ℕ). gap ++ bs) (it.spelling ∙ (ap (λ (bs : List ℕ). it.own ++ bs) row.spelling ∙ sym (append_assoc it.own row.inner tail)))
+          ∙ sym (append_assoc gap (it.own ++ row.inner) tail));
       place = let last = row.place in omega arith;
       spells = (
-        gap, it.own, row.inner, sym (append_assoc gap it.own row.inner), whole,
+        gap,
+        it.own,
+        row.inner,
+        sym (append_assoc gap it.own row.inner),
+        whole,
         runs_apart behind_run (is_run first.tree) bytes gap rest ends skip.spelling it.begins,
         subst (λ (n : ℕ). Spells lists n it.own first.tree) place it.spells,
-        subst (λ (n : ℕ). SpellsRow lists n row.inner others.row (is_run first.tree)) behind row.spells
+        subst (λ (n : ℕ). SpellsRow lists n row.inner others.row (is_run first.tree)) behind row.spells,
       );
     }
 
@@ -230,22 +231,29 @@ alone_by it tree p (b ∷ rest) skip e = absurd (err-ok _ _ e)
 alone_is : (it : Found) (tree : Tree) → alone it ≡ Ok tree → IsAlone it tree
 alone_is it tree e = let past = past_gap false it.next.at it.next.bytes in alone_by it tree past.at past.bytes (gap_sound false it.next.at it.next.bytes) e
 
+-- an input spells a tree in which at most `lists` lists are open in one another
+abbrev IsDocumentWithin : (lists : ℕ) → List ℕ → Tree → Type 0
+IsDocumentWithin lists bytes tree =
+    (before own behind : List ℕ) × (bytes ≡ before ++ own ++ behind)
+    × IsGap false before × Spells lists (length before) own tree × IsLastGap false behind
+
 document_by : (lists at : ℕ) (bytes rest : List ℕ) (it : Found) (tree : Tree) → IsSkipped false 0 bytes (here at rest) → tree_at lists (here at rest) ≡ Ok it → IsAlone it tree →
-    (before own behind : List ℕ) × (bytes ≡ before ++ own ++ behind) × IsGap false before × Spells lists (length before) own tree × IsLastGap false behind
+    IsDocumentWithin lists bytes tree
 document_by lists at bytes [] it tree skip e whole = absurd (no_tree lists at it e)
 document_by lists at bytes (b ∷ rest) it tree skip e whole =
     let read = trees_sound lists at (b ∷ rest) it e in
-    let place : at ≡ length skip.gap = let p = skip.place in omega arith in
-    (
-      skip.gap, read.own, it.next.bytes,
+    let place : at ≡ length skip.gap = let p = skip.place in omega arith in (
+      skip.gap,
+      read.own,
+      it.next.bytes,
       skip.spelling ∙ (ap (λ (bs : List ℕ). skip.gap ++ bs) read.spelling ∙ sym (append_assoc skip.gap read.own it.next.bytes)),
       skip.whole b rest refl,
       subst (λ (n : ℕ). Spells lists n read.own tree) place (subst (λ (t : Tree). Spells lists at read.own t) whole.same read.spells),
-      whole.last
+      whole.last,
     )
 
 read_by : (lists : ℕ) (bytes : List ℕ) (tree : Tree) → (tree_at lists (past_gap false 0 bytes) >>= alone) ≡ Ok tree →
-    (before own behind : List ℕ) × (bytes ≡ before ++ own ++ behind) × IsGap false before × Spells lists (length before) own tree × IsLastGap false behind
+    IsDocumentWithin lists bytes tree
 read_by lists bytes tree e =
     let past = past_gap false 0 bytes in
     let both = both_gave (tree_at lists past) alone tree e in

@@ -1,23 +1,22 @@
 -- A run that is read is a word or a number that it spells, and ends where no run byte goes on (`run_sound`, `run_back`).
-use Rattle.std.proofs.Common.{◌≡◌, ◌≤◌, ◌<◌, ℕ, suc, ◌+◌, Bool, true, false, cond, not, ◌||◌, ◌&&◌, ◌==◌, nat_lt, nat_le, List, [], ◌∷◌, ◌++◌, length, drop, take_while, Option, Some, None, Result, Ok, Err, IsTrue, refl, sym, ap, ◌∙◌, subst, append_assoc, length-append, take-append-drop, drop_at, arith}
+use Rattle.std.proofs.Common.{◌≡◌, ℕ, ◌+◌, Bool, true, false, ◌||◌, ◌&&◌, ◌==◌, nat_le, List, [], ◌∷◌, ◌++◌, length, drop, take_while, Result, Ok, Err, refl, sym, ap, ◌∙◌, subst, take-append-drop, drop_at, arith}
 use Rattle.std.specs.Prelude.{ℤ}
 use Rattle.std.specs.List.{list_all, prefix_len}
 use Rattle.std.specs.Fmt.{signed_decimal}
 use Rattle.std.specs.Str.Parse.{signed_digits_value}
-use Rattle.std.proofs.lemmas.Bool.{and_parts, and_from, cond_both, eqb-true, false≢true, le-leb, leb-true, cond-true, cond-false}
+use Rattle.std.proofs.lemmas.Bool.{and_parts, and_from, cond_both, cond-true, cond-false}
 use Rattle.std.proofs.lemmas.Bool.Decides.{nat_tests}
 use Rattle.std.proofs.lemmas.List.{length-take-le}
 use Rattle.std.proofs.lemmas.List.Sums.{prefix_len-le-length, take_while-cons}
-use Rattle.script_model.specs.Results.{◌>>=◌}
 use Rattle.script_model.specs.Bytes.{underscore, minus, is_letter, is_digit, is_run_byte}
 use Rattle.script_model.specs.Limits.{most_word_bytes, is_within}
-use Rattle.script_model.specs.Trees.{Tree, Word, Number, Text, Branch, is_run}
+use Rattle.script_model.specs.Trees.{Tree, Word, Number, is_run}
 use Rattle.script_model.specs.Spelling.{is_word, Spells}
 use Rattle.script_model.specs.Faults as fault
 use Rattle.script_model.specs.Faults.{TreeFault}
-use Rattle.script_model.specs.Reading.{Here, here, Found, found, is_number, run_tree, run_at}
+use Rattle.script_model.specs.Reading.{here, Found, found, is_number, run_tree, run_at}
 use Rattle.tree_laws.proofs.Steps.{same_Ok, err-ok, both_gave, passed}
-use Rattle.tree_laws.proofs.Numbers.{IsNumberRead, number_sound, IsNumberBack, number_back}
+use Rattle.tree_laws.proofs.Numbers.{number_sound, number_back}
 
 -- whether a run goes on here
 abbrev pub begins_run : List ℕ → Bool

@@ -1,6 +1,8 @@
 -- What it says that steps which may fail gave a result.
-use Rattle.std.proofs.Common.{◌≡◌, Bool, true, false, ◌||◌, Result, Ok, Err, refl}
+use Rattle.std.proofs.Common.{◌≡◌, ℕ, List, Bool, true, false, ◌||◌, Result, Ok, Err, refl}
 use Rattle.script_model.specs.Results.{◌>>=◌}
+use Rattle.script_model.specs.Faults.{TreeFault}
+use Rattle.script_model.specs.Reading.{Found}
 
 pub same_Ok : {A E : Type 0} (x y : A) → ◌≡◌ {A = Result A E} (Ok x) (Ok y) → x ≡ y
 same_Ok x y e = cc
@@ -22,3 +24,7 @@ passed false r x y e = absurd (err-ok _ _ e)
 pub in_either : {P : Type 0} (x y : Bool) → (x || y) ≡ true → (x ≡ true → P) → (y ≡ true → P) → P
 in_either true y e left right = left refl
 in_either false y e left right = right e
+
+-- reads what follows a `(` at a place
+abbrev pub Reader : Type 0
+Reader = ℕ → List ℕ → Result Found TreeFault

@@ -1,5 +1,5 @@
 -- A text is read as it is spelled, item by item (`text_sound`, `text_back`).
-use Rattle.std.proofs.Common.{◌≡◌, ◌≤◌, ◌<◌, ℕ, suc, ◌+◌, ◌⊎◌, inl, inr, Bool, true, false, cond, not, ◌||◌, ◌&&◌, ◌==◌, nat_lt, nat_le, List, [], ◌∷◌, ◌++◌, length, Option, Some, None, Result, Ok, Err, refl, sym, ap, ◌∙◌, subst, append_assoc, length-append, arith}
+use Rattle.std.proofs.Common.{◌≡◌, ◌≤◌, ◌<◌, ℕ, ◌+◌, ◌⊎◌, inl, inr, Bool, true, false, cond, ◌||◌, ◌==◌, nat_lt, List, [], ◌∷◌, ◌++◌, length, Option, Some, None, Result, Ok, Err, refl, sym, ap, ◌∙◌, subst, append_assoc, length-append, arith}
 use Rattle.std.specs.List.{list_all, flat_map}
 use Rattle.std.proofs.lemmas.Bool.{and_parts, and_from, eqb-true, ltb-true, lt-ltb, or_cases}
 use Rattle.std.proofs.lemmas.Bool.Decides.{nat_tests}
@@ -12,7 +12,7 @@ use Rattle.script_model.specs.Limits.{most_text_items}
 use Rattle.script_model.specs.Spelling.{item_spelling}
 use Rattle.script_model.specs.Faults as fault
 use Rattle.script_model.specs.Faults.{TreeFault}
-use Rattle.script_model.specs.Reading.{Here, here, Items, with_item, escape_of, text_step, text_items}
+use Rattle.script_model.specs.Reading.{here, Items, with_item, escape_of, text_step, text_items}
 use Rattle.tree_laws.proofs.Steps.{same_Ok, err-ok, both_gave, passed, in_either}
 
 -- a byte that a text may hold

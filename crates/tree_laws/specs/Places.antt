@@ -1,5 +1,4 @@
 -- Trees that are the same but for their places.
-use Rattle.std.specs.Prelude.{ℕ}
 use Rattle.script_model.specs.Trees.{Tree, Word, Number, Text, Branch, Trees, Nil, And}
 
 -- the tree with each place set to 0: two trees are the same but for their places where these are the same
