@@ -1,1 +1,4 @@
 mod Operators
+mod Blocks
+mod Tries
+mod Turns
