@@ -2,3 +2,7 @@ mod Operators
 mod Blocks
 mod Tries
 mod Turns
+mod ContextEnds
+mod SwitchEnds
+mod OtherEnds
+mod Forms
