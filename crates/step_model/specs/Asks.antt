@@ -1,6 +1,6 @@
 -- The calls that a fiber can make, with their operands evaluated: values by value, objects and directories by their numbers, texts by their numbers in
 -- the table, blocks with the numbers of their first nodes. The variables that a block takes with it are those of the fiber at the call.
-use Rattle.std.specs.Prelude.{ℕ, Bool, List, ℤ, Option, Some, None}
+use Rattle.std.specs.Prelude.{ℕ, Bool, true, List, ℤ, Option, Some, None}
 use Rattle.eio_value.specs.declared.value.TextId.{TextId}
 use Rattle.eio_value.specs.declared.value.Value.{Value}
 use Rattle.eio_value.specs.declared.raised.Outcome.{Outcome}
@@ -66,8 +66,10 @@ pub data Ask : Type 0 where
 
 -- ## Ends of blocks
 
--- what goes on behind an end that answers `()`: the value or exception that came to it; for every other call none
+-- what goes on behind an end that answers `()`: the value or exception that came to it. None where the end raises by itself, for the value of a late
+-- handler, and for every other call
 abbrev pub passing : Ask → Option Outcome
+passing (Leave context true (outcome.Ok value)) = None
 passing (Leave context late it) = Some it
 passing (ShutReader reader it) = Some it
 passing (ShutWriter writer it) = Some it

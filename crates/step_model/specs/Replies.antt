@@ -1,16 +1,18 @@
 -- How a fiber begins, and how it goes on once its call was answered: up to its next call.
 -- The texts and the number of the next raise are those of that moment; the variables are the fiber's own.
-use Rattle.std.specs.Prelude.{ℕ, true, false, List, [], ◌∷◌, ◌-◌, length, take, pos, None}
+use Rattle.std.specs.Prelude.{ℕ, true, false, List, [], ◌∷◌, ◌-◌, length, take, pos, Some, None}
 use Rattle.std.specs.Option.{unwrap_or}
 use Rattle.std.specs.List.{last_or}
 use Rattle.eio_value.specs.declared.value.Value.{Value}
 use Rattle.eio_value.specs.declared.value.Value.TheVariants as value
+use Rattle.eio_value.specs.declared.plain.Misuse.TheVariants.{SwitchFinished}
 use Rattle.eio_value.specs.declared.plain.Plain.{Plain}
+use Rattle.eio_value.specs.declared.plain.Plain.TheVariants.{Invalid}
 use Rattle.eio_value.specs.declared.raised.Outcome.{Outcome}
 use Rattle.eio_value.specs.declared.raised.Outcome.TheVariants as outcome
 use Rattle.eio_value.specs.declared.raised.Raised.TheVariants.{One, Cancelled}
 use Rattle.script_model.specs.Syntax.{Block, Begins, Done}
-use Rattle.step_model.specs.Asks.{Ask}
+use Rattle.step_model.specs.Asks.{Ask, passing}
 use Rattle.step_model.specs.Asks as ask
 use Rattle.step_model.specs.Work.{Work, Run, Cut, Restore, Leave, Close, Closing, Join, ShutReader, ShutWriter, Resolve, Carry, restored, bound, member, counted}
 use Rattle.step_model.specs.Silent.{items_of}
@@ -41,6 +43,11 @@ cancelled reason work c = thrown work (Cancelled (member reason c)) (counted c)
 abbrev pub passed : Outcome → List Work → Carry → Settled
 passed (outcome.Ok it) work c = answered work it c
 passed (outcome.Err raised) work c = thrown work raised c
+
+-- goes on behind an end that was answered `()`. The value of a handler of a switch that had finished is refused
+abbrev pub ended : Ask → List Work → Carry → Settled
+ended (ask.Leave context true (outcome.Ok it)) work c = raised (Invalid SwitchFinished) work c
+ended call work c = elim (passing call) [ Some it ↦ passed it work c | None ↦ settled work c ]
 
 -- ## Blocks of calls
 

@@ -10,7 +10,7 @@ use Rattle.eio_value.specs.declared.plain.Plain.TheVariants.{Failure, Invalid, E
 use Rattle.eio_value.specs.declared.raised.Outcome.TheVariants.{Ok, Err}
 use Rattle.script_model.specs.Syntax.{Statements, Then, Done, Let, Trace as TraceStatement, Raise as RaiseStatement, Variable, NumberValue, NoExpressions, AndExpression, Plain as PlainFork, Daemon, Promising}
 use Rattle.step_model.specs.Asks.{Ask, Trace, Switch, Fork, Fail, OnRelease, Leave, Close}
-use Rattle.step_rows.specs.Replied.{Gives, Throws, ThrowsAgain, Cancels, Enters, Passes, Waits, Handles, done, raise, ends, block}
+use Rattle.step_rows.specs.Replied.{Gives, ThrowsAgain, Cancels, Enters, Passes, Waits, Handles, done, raise, ends, block}
 use Rattle.step_rows.specs.Runs.{calls}
 
 abbrev int : ℕ → Value
@@ -54,7 +54,7 @@ unfolding calls
 handler_fails = refl
 
 -- a handler of a switch that had finished runs at once, with the variables of that moment; its value is refused
-late_handler : calls (codes "(eio 1 (main (switch s (let x 3) (on-release s (trace x)) (trace 1))))") (Enters 0 ∷ Enters 9 ∷ done ∷ Throws (Invalid SwitchFinished) ∷ []) ≡ Switch (block 1) ∷ OnRelease 0 (block 4) ∷ traces 3 ∷ Leave 9 true (Ok Unit) ∷ Close 0 (Some (raise 0 (Invalid SwitchFinished))) Unit ∷ []
+late_handler : calls (codes "(eio 1 (main (switch s (let x 3) (on-release s (trace x)) (trace 1))))") (Enters 0 ∷ Enters 9 ∷ done ∷ Passes ∷ []) ≡ Switch (block 1) ∷ OnRelease 0 (block 4) ∷ traces 3 ∷ Leave 9 true (Ok Unit) ∷ Close 0 (Some (raise 0 (Invalid SwitchFinished))) Unit ∷ []
 unfolding calls
 late_handler = refl
 

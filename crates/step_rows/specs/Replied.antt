@@ -1,5 +1,5 @@
 -- The words in which rows say how each call of a fiber is answered, and what they look at.
-use Rattle.std.specs.Prelude.{ℕ, List, [], ◌∷◌, map, Some, None}
+use Rattle.std.specs.Prelude.{ℕ, List, [], ◌∷◌, map}
 use Rattle.eio_value.specs.declared.value.Value.{Value}
 use Rattle.eio_value.specs.declared.value.Value.TheVariants as value
 use Rattle.eio_value.specs.declared.plain.Plain.{Plain}
@@ -7,11 +7,11 @@ use Rattle.eio_value.specs.declared.raised.Raised.{Raised}
 use Rattle.eio_value.specs.declared.raised.Raised.TheVariants.{One}
 use Rattle.eio_value.specs.declared.raised.Outcome.TheVariants as outcome
 use Rattle.script_model.specs.Syntax.{Block, Begins, Statements, Done}
-use Rattle.step_model.specs.Asks.{Ask, passing, again}
+use Rattle.step_model.specs.Asks.{Ask, again}
 use Rattle.step_model.specs.Asks as ask
 use Rattle.step_model.specs.Work.{Carry}
 use Rattle.step_model.specs.Settling.{Settled, answered, thrown}
-use Rattle.step_model.specs.Replies.{raised, cancelled, passed, entered, handled}
+use Rattle.step_model.specs.Replies.{raised, cancelled, ended, entered, handled}
 
 pub data Reply : Type 0 where
   -- this value
@@ -29,16 +29,13 @@ pub data Reply : Type 0 where
   -- a handler with its variables, in a context of this number
   Handles : (context : ℕ) → Statements → List Value → Reply
 
-abbrev pub passed_by : Settled → Settled
-passed_by s = elim (passing s.call) [ None ↦ answered s.behind value.Unit s.carry | Some it ↦ passed it s.behind s.carry ]
-
 abbrev pub replied : Reply → Settled → Settled
 replied (Gives it) s = answered s.behind it s.carry
 replied (Throws what) s = raised what s.behind s.carry
 replied (ThrowsAgain r) s = thrown s.behind r s.carry
 replied (Cancels reason) s = cancelled reason s.behind s.carry
 replied (Enters number) s = entered s.call number s.behind s.carry
-replied Passes s = passed_by s
+replied Passes s = ended s.call s.behind s.carry
 replied Waits s = record s { call = again s.call }
 replied (Handles context items variables) s = handled s.call context (Begins 0 items) variables s.behind s.carry
 
