@@ -33,6 +33,7 @@ and_then (Threw raised c) next catch more = catch raised c
 abbrev pub within : (keep : ℕ) → Went → Went
 within keep went = and_then went (λ value c. Past value (cut keep c)) Threw (work.Cut keep ∷ [])
 
+-- a new raise
 abbrev pub raises : PlainException → Carry → Went
 raises what c = Threw (One (member what c)) (counted c)
 
@@ -55,10 +56,12 @@ abbrev pub place_in : List Value → Directory → Place
 place_in variables (syntax.Declared number) = ask.Declared number
 place_in variables (syntax.Opened slot) = ask.Opened (number_at variables slot)
 
+-- truth is any number but 0
 abbrev pub is_zero : ℤ → Bool
 is_zero (pos zero) = true
 is_zero z = false
 
+-- the statement that ends its block with a value
 abbrev pub gives : Statement → Bool
 gives (Give e) = true
 gives statement = false
@@ -84,6 +87,7 @@ branched Any NoBlocks c = asks ask.AwaitCancel c
 branched group blocks c = asks (ask.Branches group (blocks_of blocks)) c
 
 unfoldable mutual
+  -- a statement, with the value that it gives
   pub statement : Statement → Carry → Went
   statement (Let e) c = with_value (value_of c.variables e) c (λ value. Past Unit (bound (length c.variables) value c))
   statement (LetForm form) c =
@@ -128,9 +132,11 @@ unfoldable mutual
   statement (Save only_new directory path content) c =
       with_value (text_of c.variables path) c (λ name. with_value (text_of c.variables content) c (λ text. asks (ask.Save only_new (place_in c.variables directory) name text) c))
 
+  -- the statements of a block; whoever goes into it says what its end does
   pub block : Block → Carry → Went
   block (Begins number items) c = statements items c
 
+  -- the statements that are left of a block
   pub statements : Statements → Carry → Went
   statements Done c = Past Unit c
   statements (Then it rest) c = elim (gives it) [

@@ -17,7 +17,7 @@ pub data Work : Type 0 where
   Run : Statements → Work
   -- the end of a block that does nothing more
   Cut : (keep : ℕ) → Work
-  -- the end of a handler that ran in another fiber than the one that registered it: the fiber's own variables are back
+  -- the end of a handler, which ran with the variables that it was registered with: the fiber's own are back
   Restore : List Value → Work
   -- the end of the first block of a `try`, with the second one
   Try : (handler : Block) → (keep : ℕ) → Work

@@ -48,6 +48,11 @@ try_inside : calls (codes "(eio 1 (main (protect (try ((yield)) e ()))))") (Ente
 unfolding calls
 try_inside = refl
 
+-- names of the block are gone behind it
+behind_block : calls (codes "(eio 1 (main (sub c (let y 2)) (let z 7) (trace z)))") (Enters 5 ∷ Passes ∷ done ∷ []) ≡ Sub (block 1) ∷ Leave 5 false (Ok Unit) ∷ traces 7 ∷ ends Unit ∷ []
+unfolding calls
+behind_block = refl
+
 -- Branches
 
 -- the caller runs the last block, and comes to `join` with its outcome; a further `join` brings nothing

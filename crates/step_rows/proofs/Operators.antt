@@ -30,6 +30,12 @@ equality = refl
 two_kinds : is_same (Ctx 1) (Switch 1) ≡ false
 two_kinds = refl
 
+two_switches : is_same (Switch 1) (Switch 2) ≡ false
+two_switches = refl
+
+two_contexts : is_same (Ctx 1) (Ctx 2) ≡ false
+two_contexts = refl
+
 one_switch : is_same (Switch 1) (Switch 1) ≡ true
 one_switch = refl
 

@@ -48,8 +48,8 @@ handler_runs : calls (codes "(eio 1 (main (let x 1) (let r (switch s (on-release
 unfolding calls
 handler_runs = refl
 
--- a handler's exception comes to the next `close`, which keeps the body's value
-handler_fails : calls (codes "(eio 1 (main (try ((let x 1) (switch s (fail s \"a\") (give 4))) e ((trace e)))))") (Enters 0 ∷ done ∷ Handles 7 fails_at_once (int 8 ∷ int 9 ∷ []) ∷ Passes ∷ Handles 8 traces_first (int 6 ∷ []) ∷ done ∷ Passes ∷ ThrowsAgain (raise 5 Exit) ∷ done ∷ []) ≡ Switch (block 4) ∷ Fail 0 (text_id 0) ∷ Close 0 None (int 4) ∷ Leave 7 false (Err (raise 0 (failure 0))) ∷ Close 0 (Some (raise 0 (failure 0))) (int 4) ∷ traces 6 ∷ Leave 8 false (Ok Unit) ∷ Close 0 None (int 4) ∷ Trace (Text (text_id 1) ∷ []) ∷ ends Unit ∷ []
+-- a handler's exception comes to the next `close`, which keeps the body's value; the variables of the fiber are back here too
+handler_fails : calls (codes "(eio 1 (main (let x 1) (try ((switch s (fail s \"a\") (give 4))) e ((trace x e)))))") (Enters 0 ∷ done ∷ Handles 7 fails_at_once (int 8 ∷ int 9 ∷ []) ∷ Passes ∷ Handles 8 traces_first (int 6 ∷ []) ∷ done ∷ Passes ∷ ThrowsAgain (raise 5 Exit) ∷ done ∷ []) ≡ Switch (block 4) ∷ Fail 0 (text_id 0) ∷ Close 0 None (int 4) ∷ Leave 7 false (Err (raise 0 (failure 0))) ∷ Close 0 (Some (raise 0 (failure 0))) (int 4) ∷ traces 6 ∷ Leave 8 false (Ok Unit) ∷ Close 0 None (int 4) ∷ Trace (int 1 ∷ Text (text_id 1) ∷ []) ∷ ends Unit ∷ []
 unfolding calls
 handler_fails = refl
 

@@ -56,6 +56,28 @@ variables_of_try : calls (codes "(eio 1 (main (let x 1) (try ((let y 2) (let z 3
 unfolding calls
 variables_of_try = refl
 
+-- names of either block are gone behind it, whether calls were made in them or not
+
+behind_first_block : calls (codes "(eio 1 (main (try ((let y 2)) e ()) (let z 7) (trace z)))") (done ∷ []) ≡ Trace (Int (pos 7) ∷ []) ∷ ends Unit ∷ []
+unfolding calls
+behind_first_block = refl
+
+behind_first_block_late : calls (codes "(eio 1 (main (try ((let y 2) (yield)) e ()) (let z 7) (trace z)))") (done ∷ done ∷ []) ≡ Yield ∷ Trace (Int (pos 7) ∷ []) ∷ ends Unit ∷ []
+unfolding calls
+behind_first_block_late = refl
+
+behind_second_block : calls (codes "(eio 1 (main (try ((raise \"a\")) e ((let y 3))) (let z 7) (trace z)))") (done ∷ []) ≡ Trace (Int (pos 7) ∷ []) ∷ ends Unit ∷ []
+unfolding calls
+behind_second_block = refl
+
+behind_second_block_late : calls (codes "(eio 1 (main (try ((yield) (raise \"a\")) e ((let y 3))) (let z 7) (trace z)))") (done ∷ done ∷ []) ≡ Yield ∷ Trace (Int (pos 7) ∷ []) ∷ ends Unit ∷ []
+unfolding calls
+behind_second_block_late = refl
+
+behind_call_of_second_block : calls (codes "(eio 1 (main (try ((yield) (raise \"a\")) e ((let y 3) (yield))) (let z 7) (trace z)))") (done ∷ done ∷ done ∷ []) ≡ Yield ∷ Yield ∷ Trace (Int (pos 7) ∷ []) ∷ ends Unit ∷ []
+unfolding calls
+behind_call_of_second_block = refl
+
 -- what a `try` gives
 
 first_block_gives : calls (codes "(eio 1 (main (let x (try ((give 1)) e ((give 2)))) (trace x)))") (done ∷ []) ≡ Trace (Int (pos 1) ∷ []) ∷ ends Unit ∷ []
