@@ -105,6 +105,28 @@ directory_has_no_end : calls (codes "(eio 1 (dir c) (main (let x (open-dir c \"a
 unfolding calls
 directory_has_no_end = refl
 
+-- Names of a block are gone behind its end
+
+behind_mutex : calls (codes "(eio 1 (mutex m) (main (use-rw m (let y 1) (yield)) (let z 7) (trace z)))") (done ∷ done ∷ Passes ∷ done ∷ []) ≡ OnObject Lock 0 ∷ Yield ∷ UnlockEnd 0 Unit ∷ traces 7 ∷ ends Unit ∷ []
+unfolding calls
+behind_mutex = refl
+
+behind_pool : calls (codes "(eio 1 (pool r 4) (main (use-pool r i (let y 1)) (let z 7) (trace z)))") (Gives (int 3) ∷ Passes ∷ done ∷ []) ≡ Use 0 ∷ PutEnd 0 3 (Ok Unit) ∷ traces 7 ∷ ends Unit ∷ []
+unfolding calls
+behind_pool = refl
+
+behind_pool_late : calls (codes "(eio 1 (pool r 4) (main (use-pool r i (let y 1) (yield)) (let z 7) (trace z)))") (Gives (int 3) ∷ done ∷ Passes ∷ done ∷ []) ≡ Use 0 ∷ Yield ∷ PutEnd 0 3 (Ok Unit) ∷ traces 7 ∷ ends Unit ∷ []
+unfolding calls
+behind_pool_late = refl
+
+behind_reader : calls (codes "(eio 1 (flow f) (main (buf-read b f 9 (let y 1)) (let z 7) (trace z)))") (Enters 3 ∷ Passes ∷ done ∷ []) ≡ OpenReader 0 9 (block 1) ∷ ShutReader 3 (Ok Unit) ∷ traces 7 ∷ ends Unit ∷ []
+unfolding calls
+behind_reader = refl
+
+behind_directory : calls (codes "(eio 1 (dir c) (main (open-dir c \"a\" d (let y 1)) (let z 7) (trace z)))") (Enters 3 ∷ done ∷ []) ≡ OpenDirectory (Declared 0) (text_id 1) (block 2) ∷ traces 7 ∷ ends Unit ∷ []
+unfolding calls
+behind_directory = refl
+
 -- Fibers
 
 -- a promise gets the outcome, and the end of the fiber has unit, or what `resolve` raised
