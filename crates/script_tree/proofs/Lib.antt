@@ -4,3 +4,4 @@ pub mod Numbers
 pub mod Runs
 pub mod Texts
 pub mod Trees
+pub mod Wholes

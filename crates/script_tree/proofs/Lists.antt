@@ -1,17 +1,18 @@
 -- The reading of a list, tree by tree: what is read already stands in front of the rest.
-use Rattle.std.proofs.Common.{◌≡◌, ◌≢◌, ℕ, zero, suc, ◌+◌, ◌-◌, ◌<◌, ◌≤◌, List, [], ◌∷◌, ◌++◌, length, get_or, drop, Bool, true, false, Result, Ok, Err, refl, arith, ap, sym, subst, ◌∙◌, append_assoc, length-drop, add-one, false≢true}
+use Rattle.std.proofs.Common.{◌≡◌, ◌≢◌, ℕ, zero, suc, ◌+◌, ◌<◌, ◌≤◌, List, [], ◌∷◌, ◌++◌, length, get_or, drop, Bool, true, false, Result, Ok, Err, refl, arith, ap, sym, subst, ◌∙◌, append_assoc, length-drop}
 use Rattle.std.proofs.lemmas.Grind.{common_steps}
+use Rattle.std.proofs.lemmas.Bool.{false≢true}
 use Rattle.std.specs.Prelude.{◌==◌}
 use Rattle.script_model.specs.Faults as model
 use Rattle.script_model.specs.Faults.{TreeFault}
 use Rattle.script_model.specs.Bytes.{close_paren}
 use Rattle.script_model.specs.Results.{◌>>=◌}
-use Rattle.script_model.specs.Trees.{Tree, Branch, Trees, Nil, And}
+use Rattle.script_model.specs.Trees.{Tree, Branch, Nil}
 use Rattle.script_model.specs.Reading.{Here, here, Found, found, Row, with_tree, past_gap, Going, InputEnds, ListEnds, TreeComes, going_of, trees_by, list_by}
 use Rattle.script_tree.specs.declared.fault.TreeFault as code
 use Rattle.script_tree.specs.declared.fault.TreeFault.TheVariants as fault
 use Rattle.script_tree.specs.Pieces.{Piece, Opens, Closes, pieces, row_pieces}
-use Rattle.script_tree.specs.Views.{from, Fails}
+use Rattle.script_tree.specs.Views.{from, Fails, Gives}
 use Rattle.script_tree.specs.Growing.{Grown, grown, grows, grows_row}
 use Rattle.script_tree.proofs.Gaps.{split_at}
 
@@ -24,6 +25,10 @@ fails_on (fault.Number at) r s on h = on _ h
 fails_on (fault.LongText at) r s on h = on _ h
 fails_on (fault.Deep at) r s on h = on _ h
 fails_on fault.NoMemory r s on h = tt
+
+-- and a fault that a call hands on
+pub fault_given : (bytes : List ℕ) (so_far : List Piece) (whole : Result Grown TreeFault) (r : Result ℕ code.TreeFault) (x e : code.TreeFault) → r ≡ Err x → x ≡ e → Fails e whole → Gives (grown bytes so_far) r whole
+fault_given bytes so_far whole r x e given same h = subst (λ (r : Result ℕ code.TreeFault). Gives (grown bytes so_far) r whole) (sym given) (subst (λ (e : code.TreeFault). Fails e whole) (sym same) h)
 
 abbrev Read : Type 0
 Read = Result Found TreeFault
@@ -111,15 +116,15 @@ tree_first so_far tree (Err e) = refl
 abbrev then_rest : (Here → Read) → (most paren : ℕ) → Read → RowRead
 then_rest read most paren r = r >>= λ first. trees_by read most paren (past_gap false first.next.at first.next.bytes) >>= λ others. Ok (with_tree first.tree others)
 
-abbrev so_far_of : Result Grown TreeFault → List Piece
+abbrev pub so_far_of : Result Grown TreeFault → List Piece
 so_far_of (Ok x) = x.so_far
 so_far_of (Err e) = []
 
-abbrev next_of : Result Grown TreeFault → Here
+abbrev pub next_of : Result Grown TreeFault → Here
 next_of (Ok x) = x.next
 next_of (Err e) = here 0 []
 
-abbrev is_ok : Result Grown TreeFault → Bool
+abbrev pub is_ok : Result Grown TreeFault → Bool
 is_ok (Ok x) = true
 is_ok (Err e) = false
 

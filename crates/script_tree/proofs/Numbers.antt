@@ -1,5 +1,5 @@
 -- What `parse` reads from a numeral with or without a minus is its number; only of `-0` the notation has none.
-use Rattle.std.proofs.Common.{◌≡◌, ◌≢◌, ℕ, zero, suc, ◌^◌, ◌<◌, ◌≤◌, List, [], ◌∷◌, length, get_or, Bool, true, false, Result, Ok, Err, Option, Some, None, ℤ, pos, neg_ℤ, refl, arith, ap, sym, subst, ◌∙◌, w64, rules, true≢false, lit<}
+use Rattle.std.proofs.Common.{◌≡◌, ◌≢◌, ℕ, zero, suc, ◌^◌, ◌<◌, ◌≤◌, List, [], ◌∷◌, length, Bool, true, false, Result, Ok, Err, Option, Some, None, ℤ, pos, neg_ℤ, refl, arith, ap, sym, subst, ◌∙◌, w64, rules, true≢false, lit<}
 use Rattle.std.proofs.lemmas.Grind.{common_steps}
 use Rattle.std.proofs.lemmas.Bool.Decides.{nat_tests, Decides-eqb}
 use Rattle.std.specs.Prelude.{nat_le, nat_lt, ◌==◌, ◌&&◌, not, if◌then◌else◌}
@@ -9,8 +9,8 @@ use Rattle.std.specs.Str.Parse.{ParsesSigned, digits_value, starts_with_minus}
 use Rattle.std.proofs.lemmas.Str.Parse.{IsNumeralModel, numerals_by_value, parse_signed_minus, parse_signed_digits}
 use Rattle.std.specs.Str.{IsUtf8, IsAscii}
 use Rattle.std.proofs.lemmas.Str.{IsUtf8-from_ascii}
-use Rattle.script_model.specs.Bytes.{is_digit, minus, digit_zero}
-use Rattle.script_model.specs.Reading.{is_numeral, is_number}
+use Rattle.script_model.specs.Bytes.{is_digit, digit_zero}
+use Rattle.script_model.specs.Reading.{is_numeral}
 use Rattle.script_tree.specs.Numbers.{number_of, is_signed_numeral}
 
 digits : IsNumeralModel (λ ds. list_all is_digit ds ≡ true) (digits_value 10)
@@ -72,10 +72,10 @@ zero_or_not (suc v) h = grind arith
 
 minus_case : {E : Type 0} (ds : List ℕ) (r : Result ℤ E) → OkIff r ((list_all is_digit ds ≡ true) × (0 < length ds) × (digits_value 10 ds ≤ 2 ^ 63)) (neg_ℤ (pos (digits_value 10 ds))) → is_numeral ds ≡ true → IsRead (45 ∷ ds) r
 minus_case ds (Ok z) h n = (
-    (λ nonzero. minus_some (is_numeral ds) (digits_value 10 ds) n (λ is_zero. nonzero (h.1 ∙ ap (λ v. neg_ℤ (pos v)) is_zero)) h.0.2 ∙ ap (λ (k : ℤ). let o : Option ℤ = Some k in o) (sym h.1)),
-    (λ plain. grind arith),
-    (λ is_zero negative. minus_none (is_numeral ds) (digits_value 10 ds) n (zero_or_not _ (sym h.1 ∙ is_zero)))
-  )
+  (λ nonzero. minus_some (is_numeral ds) (digits_value 10 ds) n (λ is_zero. nonzero (h.1 ∙ ap (λ v. neg_ℤ (pos v)) is_zero)) h.0.2 ∙ ap (λ (k : ℤ). let o : Option ℤ = Some k in o) (sym h.1)),
+  (λ plain. grind arith),
+  (λ is_zero negative. minus_none (is_numeral ds) (digits_value 10 ds) n (zero_or_not _ (sym h.1 ∙ is_zero))),
+)
 minus_case ds (Err e) h n =
     let d = numeral_digits ds n in
     minus_large (is_numeral ds) (digits_value 10 ds) (λ small. h (d.0, d.1, small))

@@ -1,5 +1,5 @@
 -- One step over a text: what is read already stands in front of the rest.
-use Rattle.std.proofs.Common.{◌≡◌, ℕ, suc, ◌+◌, ◌<◌, ◌≤◌, List, [], ◌∷◌, ◌++◌, length, get_or, drop, Bool, true, false, Some, None, Result, Ok, Err, refl, arith, ap, sym, ◌∙◌, append-nil, append_assoc, add-one}
+use Rattle.std.proofs.Common.{◌≡◌, ℕ, ◌+◌, ◌<◌, ◌≤◌, List, [], ◌∷◌, ◌++◌, length, get_or, drop, Bool, true, false, Result, Ok, Err, refl, arith, ap, sym, ◌∙◌, append-nil, append_assoc}
 use Rattle.std.proofs.lemmas.Grind.{common_steps}
 use Rattle.std.specs.Prelude.{nat_lt}
 use Rattle.script_model.specs.Faults as fault

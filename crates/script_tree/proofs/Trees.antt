@@ -1,18 +1,20 @@
 -- The reading of a tree, by its first byte.
-use Rattle.std.proofs.Common.{◌≡◌, ◌≢◌, ℕ, zero, suc, ◌+◌, ◌-◌, ◌<◌, ◌≤◌, List, [], ◌∷◌, ◌++◌, length, get_or, drop, take, Bool, true, false, Result, Ok, Err, refl, arith, ap, sym, subst, ◌∙◌}
+use Rattle.std.proofs.Common.{◌≡◌, ◌≢◌, ℕ, zero, suc, ◌+◌, ◌<◌, ◌≤◌, List, [], ◌∷◌, ◌++◌, length, get_or, drop, take, Bool, true, false, Result, Ok, Err, refl, arith, ap, sym, ◌∙◌}
 use Rattle.std.proofs.lemmas.Grind.{common_steps}
-use Rattle.std.proofs.lemmas.Bool.Decides.{nat_tests}
 use Rattle.std.specs.Prelude.{◌==◌, if◌then◌else◌}
-use Rattle.std.specs.List.{take_while}
+use Rattle.std.specs.List.{take_while, prefix_len}
+use Rattle.std.proofs.lemmas.List.{take_min, length-take, drop-drop}
 use Rattle.script_model.specs.Faults as model
 use Rattle.script_model.specs.Faults.{TreeFault}
 use Rattle.script_model.specs.Bytes.{open_paren, close_paren, quote, is_run_byte}
 use Rattle.script_model.specs.Results.{◌>>=◌}
-use Rattle.script_model.specs.Trees.{Tree, Word, Number, Text, Branch}
-use Rattle.script_model.specs.Reading.{Here, here, Found, found, Items, Start, Opens, Closes, Quotes, Runs, Strange, start_of, tree_by, tree_at, list_by, text_at, text_items, run_at, run_tree}
+use Rattle.script_model.specs.Trees.{Tree, Text}
+use Rattle.script_model.specs.Reading.{Here, here, Found, found, Items, Start, Opens, Closes, Quotes, Runs, Strange, start_of, tree_at, list_by, text_at, run_at, run_tree}
 use Rattle.script_tree.specs.Pieces.{Piece, leaf_of, pieces}
 use Rattle.script_tree.specs.Pieces as piece
-use Rattle.script_tree.specs.Views.{from}
+use Rattle.script_tree.specs.declared.run.Run.{Run}
+use Rattle.script_tree.specs.declared.run.Run.TheVariants as run
+use Rattle.script_tree.specs.Views.{from, run_of}
 use Rattle.script_tree.specs.Growing.{Grown, grown, grows}
 use Rattle.script_tree.proofs.Gaps.{split_at}
 
@@ -88,3 +90,27 @@ text_grows so_far new at text next r e is = ap (λ (x : Result Items TreeFault).
 
 pub text_fails : (so_far : List Piece) (at : ℕ) (r : Result Items TreeFault) (f : TreeFault) → r ≡ Err f → grows so_far (r >>= λ text. Ok (found (Text at text.items) text.next)) ≡ Err f
 text_fails so_far at r f e = ap (λ (x : Result Items TreeFault). grows so_far (x >>= λ text. Ok (found (Text at text.items) text.next))) e
+
+run_leaf : (at : ℕ) (run : Run) → pieces (run_of at run) ≡ leaf_of (run_of at run) ∷ []
+unfolding pieces
+run_leaf at (run.Word word) = refl
+run_leaf at (run.Number number) = refl
+
+take_length : (n : ℕ) (bytes : List ℕ) → take (length (take n bytes)) bytes ≡ take n bytes
+take_length n bytes = rw length-take (take_min n bytes)
+
+-- the longest run, as it is cut off
+cut_run : (bytes run : List ℕ) (len : ℕ) → len ≡ length (take_while is_run_byte bytes) → run ≡ take len bytes → run ≡ take_while is_run_byte bytes
+cut_run bytes run len e h = h ∙ (ap (λ k. take k bytes) e ∙ take_length (prefix_len is_run_byte bytes) bytes)
+
+abbrev run_from : ℕ → List ℕ → (len : ℕ) → Result Tree TreeFault → Read
+run_from at bytes len r = r >>= λ tree. Ok (found tree (here (at + len) (drop len bytes)))
+
+pub run_grows : (so_far new : List Piece) (at len : ℕ) (bytes rest run : List ℕ) (word : Run) (p : Piece) → rest ≡ drop at bytes → len ≡ length (take_while is_run_byte rest) → run ≡ take len rest → run_tree at run ≡ Ok (run_of at word) → p ≡ leaf_of (run_of at word) → new ≡ so_far ++ p ∷ [] → grows so_far (run_at at (drop at bytes)) ≡ Ok (grown bytes new (at + len))
+run_grows so_far new at len bytes rest run word p is_rest is_len is_run read is_p is_new =
+    let whole_run = cut_run rest run len is_len is_run in
+    let back : drop len rest ≡ drop (at + len) bytes = ap (drop len) is_rest ∙ drop-drop len at bytes in
+    let grew : so_far ++ pieces (run_of at word) ≡ new = ap (λ ps. so_far ++ ps) (run_leaf at word) ∙ (ap (λ q. so_far ++ q ∷ []) (sym is_p) ∙ sym is_new) in
+    ap (λ bs. grows so_far (run_at at bs)) (sym is_rest) ∙ (ap (λ k. grows so_far (run_from at rest k (run_tree at (take_while is_run_byte rest)))) (sym is_len)
+    ∙ (ap (λ w. grows so_far (run_from at rest len (run_tree at w))) (sym whole_run) ∙ (ap (λ r. grows so_far (run_from at rest len r)) read
+    ∙ (ap (λ (ps : List Piece). let g : Result Grown TreeFault = Ok (record { so_far = ps; next = here (at + len) (drop len rest) }) in g) grew ∙ ap (λ (bs : List ℕ). let g : Result Grown TreeFault = Ok (record { so_far = new; next = here (at + len) bs }) in g) back))))

@@ -38,3 +38,37 @@ unfoldable mutual
   pub row_pieces : Trees → List Piece
   row_pieces Nil = []
   row_pieces (And tree rest) = pieces tree ++ row_pieces rest
+
+-- ## The tree that pieces spell, read from the back
+
+-- the first of some rows of trees; where there is none, the empty one
+abbrev pub first : List Trees → Trees
+first [] = Nil
+first (row ∷ rows) = row
+
+-- and those behind it
+abbrev pub others : List Trees → List Trees
+others [] = []
+others (row ∷ rows) = rows
+
+-- a piece before the rows behind it: an end begins an empty row, a tree goes before the first row, and where a list
+-- opens, the first row is its own, and it goes before the second
+abbrev pub onto_rows : Piece → List Trees → List Trees
+onto_rows (Words at word) rows = And (Word at word) (first rows) ∷ others rows
+onto_rows (Numbers at z) rows = And (Number at z) (first rows) ∷ others rows
+onto_rows (Texts at text) rows = And (Text at text) (first rows) ∷ others rows
+onto_rows (Opens at) rows = And (Branch at (first rows)) (first (others rows)) ∷ others (others rows)
+onto_rows Closes rows = Nil ∷ rows
+
+abbrev pub rows : List Piece → List Trees
+rows [] = []
+rows (piece ∷ rest) = onto_rows piece (rows rest)
+
+-- the first tree of a row; where there is none, an empty word
+abbrev pub first_tree : Trees → Tree
+first_tree Nil = Word 0 []
+first_tree (And tree rest) = tree
+
+-- the tree that pieces spell
+unfoldable pub tree_of : List Piece → Tree
+tree_of spelled = first_tree (first (rows spelled))

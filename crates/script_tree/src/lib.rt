@@ -9,4 +9,5 @@ mod text;
 mod tree;
 
 pub use fault::TreeFault;
+pub use reader::read_tree;
 pub use tree::{Node, Tree};

@@ -1,9 +1,10 @@
 //! Reading: trees in one another, from the left. The theorem is the clause `tree` of [`read_tree`].
 
-ghost use Rattle.std.specs.Prelude.{◌≡◌, ◌≤◌, ◌<◌, ◌+◌, length, drop, slice_index, true, IfOk};
-ghost use Rattle.script_model.specs.Reading.{tree_at, list_by, text_at, run_at};
+ghost use Rattle.std.specs.Prelude.{◌≡◌, ◌≤◌, ◌<◌, ◌+◌, length, drop, slice_index, true, Ok, IfOk, IfErr};
+ghost use Rattle.script_model.specs.Reading.{reading, tree_at, list_by, text_at, run_at};
 ghost use Rattle.script_model.specs.Bytes.{is_run_byte};
-ghost use Rattle.script_tree.specs.Views.{from, Gives};
+ghost use Rattle.script_tree.specs.Pieces.{tree_of};
+ghost use Rattle.script_tree.specs.Views.{from, Gives, Fails};
 ghost use Rattle.script_tree.specs.Growing.{grown, grows};
 
 use crate::fault::TreeFault;
@@ -12,6 +13,28 @@ use crate::run::{is_run_byte, parse_run, run_len};
 use crate::text::read_text;
 use crate::tree::{Node, Tree};
 use std::alloc::Global;
+
+/// The most lists that may be open in one another.
+const MOST_LISTS: u32 = 64;
+
+/// Reads the tree that an input spells.
+///
+/// # Errors
+/// The one fault of the input, with its place, where it spells no tree; [`TreeFault::NoMemory`] where memory runs out.
+pub fn read_tree(alloc: Global, bytes: &[u8]) -> Result<Tree, TreeFault>
+    requires most { length bytes.now ≤ 262144 }
+    ensures ok { IfOk result (λ tree. reading bytes.now ≡ Ok (tree_of tree)) }
+    ensures fault { IfErr result (λ fault. Fails fault (reading bytes.now)) }
+{
+    let mut tree = Tree::new(alloc);
+    let begin = after_gap(bytes, 0);
+    let next = push_tree(alloc, bytes, begin, MOST_LISTS, &mut tree)?;
+    let end = after_gap(bytes, next);
+    if end < bytes.len() {
+        return Err(TreeFault::Stray(end as u32));
+    }
+    Ok(tree)
+}
 
 /// The text that begins at a quote, as one more piece; the place behind it.
 fn push_text(alloc: Global, bytes: &[u8], at: usize, tree: &mut Tree) -> Result<usize, TreeFault>

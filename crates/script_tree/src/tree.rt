@@ -32,14 +32,23 @@ impl Model for Tree {
 }
 
 impl Tree {
-    ghost use Rattle.std.specs.Prelude.{◌≡◌, [], ◌∷◌, ◌++◌, OnOk};
+    ghost use Rattle.std.specs.Prelude.{◌≡◌, [], ◌∷◌, ◌++◌, map, OnOk};
     ghost use Rattle.script_tree.specs.Pieces.{piece_of};
 
     /// No pieces yet.
     pub(crate) fn new(alloc: Global) -> Tree
         ensures { result ≡ [] }
     {
-        Tree { nodes: Vec::new(alloc) }
+        Tree {
+            nodes: Vec::new(alloc),
+        }
+    }
+
+    /// Its pieces, in reading order.
+    pub fn nodes(&self) -> &[Node]
+        ensures { map piece_of result.now ≡ self.now }
+    {
+        &self.nodes
     }
 
     /// One more piece, behind the others.
