@@ -48,6 +48,16 @@ alone_by bytes next end new (Ok x) e gap =
     ap (λ (h : Here). by_place x.tree (past_gap false h.at h.bytes)) (ap next_of e) ∙ (ap (by_place x.tree) gap ∙ ap (λ t. by_place t (from bytes end)) (sym (tree_of-pieces x.tree) ∙ ap tree_of (ap so_far_of e)))
 alone_by bytes next end new (Err f) e gap = absurd (false≢true (ap is_ok e))
 
+pieces_by : (bytes : List ℕ) (next : ℕ) (new : List Piece) (r : Read) → grows [] r ≡ Ok (grown bytes new next) → new ≡ pieces (tree_of new)
+pieces_by bytes next new (Ok x) e =
+    let same : pieces x.tree ≡ new = ap so_far_of e in
+    sym same ∙ ap pieces (sym (tree_of-pieces x.tree) ∙ ap tree_of same)
+pieces_by bytes next new (Err f) e = absurd (false≢true (ap is_ok e))
+
+-- what was read is a whole tree's pieces and no more
+pub whole_pieces : (bytes : List ℕ) (begin next : ℕ) (new : List Piece) → grows [] (tree_at 64 (from bytes begin)) ≡ Ok (grown bytes new next) → new ≡ pieces (tree_of new)
+whole_pieces bytes begin next new e = pieces_by bytes next new (tree_at 64 (from bytes begin)) e
+
 begun : (bytes : List ℕ) (begin : ℕ) → past_gap false 0 (drop 0 bytes) ≡ from bytes begin → reading bytes ≡ (tree_at 64 (from bytes begin) >>= alone)
 unfolding reading
 begun bytes begin gap = ap (λ h. tree_at 64 h >>= alone) gap

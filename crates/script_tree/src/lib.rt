@@ -11,3 +11,6 @@ mod tree;
 pub use fault::TreeFault;
 pub use reader::read_tree;
 pub use tree::{Node, Tree};
+
+#[cfg(test)]
+mod tests;

@@ -3,7 +3,7 @@
 ghost use Rattle.std.specs.Prelude.{◌≡◌, ◌≤◌, ◌<◌, ◌+◌, length, drop, slice_index, true, Ok, IfOk, IfErr};
 ghost use Rattle.script_model.specs.Reading.{reading, tree_at, list_by, text_at, run_at};
 ghost use Rattle.script_model.specs.Bytes.{is_run_byte};
-ghost use Rattle.script_tree.specs.Pieces.{tree_of};
+ghost use Rattle.script_tree.specs.Pieces.{pieces, tree_of};
 ghost use Rattle.script_tree.specs.Views.{from, Gives, Fails};
 ghost use Rattle.script_tree.specs.Growing.{grown, grows};
 
@@ -24,6 +24,7 @@ const MOST_LISTS: u32 = 64;
 pub fn read_tree(alloc: Global, bytes: &[u8]) -> Result<Tree, TreeFault>
     requires most { length bytes.now ≤ 262144 }
     ensures ok { IfOk result (λ tree. reading bytes.now ≡ Ok (tree_of tree)) }
+    ensures whole { IfOk result (λ tree. tree ≡ pieces (tree_of tree)) }
     ensures fault { IfErr result (λ fault. Fails fault (reading bytes.now)) }
 {
     let mut tree = Tree::new(alloc);

@@ -4,7 +4,7 @@ use Rattle.script_model.specs.Reading.{tree_at}
 use Rattle.script_tree.specs.Pieces.{Piece}
 use Rattle.script_tree.specs.Views.{from, Fails}
 use Rattle.script_tree.specs.Growing.{grows}
-use Rattle.script_tree.proofs.Wholes.{whole_reads, whole_strays, whole_fails}
+use Rattle.script_tree.proofs.Wholes.{whole_reads, whole_strays, whole_pieces, whole_fails}
 use Rattle.script_tree.proofs.reader.read_tree.Goals as goal
 
 pub returns-in_err-next-clause-fault : goal.returns-in_err-next-clause-fault
@@ -22,3 +22,8 @@ pub returns-clause-ok : goal.returns-clause-ok
 returns-clause-ok c =
     let read = ap (λ (ps : List Piece). grows ps (tree_at 64 (from c.args.bytes.now c.after_gap-begin.result))) (sym c.new-tree.ensures) ∙ c.in_ok-next.ensures.tree in
     whole_reads c.args.bytes.now c.after_gap-begin.result c.in_ok-next.next c.after_gap-end.result c.push_tree.new.tree c.after_gap-begin.ensures.gap read c.after_gap-end.ensures.gap (omega arith)
+
+pub returns-clause-whole : goal.returns-clause-whole
+returns-clause-whole c =
+    let read = ap (λ (ps : List Piece). grows ps (tree_at 64 (from c.args.bytes.now c.after_gap-begin.result))) (sym c.new-tree.ensures) ∙ c.in_ok-next.ensures.tree in
+    whole_pieces c.args.bytes.now c.after_gap-begin.result c.in_ok-next.next c.push_tree.new.tree read
