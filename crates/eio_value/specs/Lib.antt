@@ -4,8 +4,10 @@ pub mod EntriesFall
 pub mod EntriesInside
 pub mod Escapes
 pub mod Exceptions
+pub mod FilledPlaces
 pub mod Joining
 pub mod MembersInside
+pub mod OperandsInside
 pub mod Several
 pub mod Table
 pub mod Values

@@ -1,11 +1,11 @@
 -- How `Members` keeps its members: in the first places of an array of eight, and one blank member in all others.
 use Rattle.std.specs.Prelude.{◌≡◌, ℕ, ◌-◌, ◌≤◌, Bool, List, ◌++◌, length, take, drop, replicate}
-use Rattle.std.proofs.Common.{ap, ◌∙◌, take-append-drop, arith}
-use Rattle.std.proofs.lemmas.Grind.{common_steps}
+use Rattle.std.proofs.Common.{ap, ◌∙◌}
 use Rattle.eio_value.specs.declared.plain.Member.{Member}
 use Rattle.eio_value.specs.declared.plain.Plain.TheVariants.{Exit}
 use Rattle.eio_value.specs.Several.{Several, AreDistinct}
 use Rattle.eio_value.specs.declared.members.Members.TheInside.{Inside}
+use Rattle.eio_value.specs.FilledPlaces.{padded_front, length_front}
 
 abbrev pub blank : Member
 blank = record { serial = 0; what = Exit }
@@ -26,21 +26,12 @@ pub record IsFilled (m : Inside) : Type 0 where
 abbrev pub filled : Several → Inside
 filled s = record { places = s.members ++ replicate (8 - length s.members) blank; count = length s.members; cut = s.cut }
 
--- the front and its blanks are all places
-pub padded_front : (places : List Member) (n : ℕ) → length places ≡ 8 → n ≤ 8 → drop n places ≡ replicate (8 - n) blank → take n places ++ replicate (8 - length (take n places)) blank ≡ places
-padded_front places n whole most rest =
-    let count : length (take n places) ≡ n = grind (arith, common_steps) in
-    rw (count, ← rest) (take-append-drop n places)
-
-pub length_front : (places : List Member) (n : ℕ) → length places ≡ 8 → n ≤ 8 → length (take n places) ≡ n
-length_front places n whole most = grind (arith, common_steps)
-
 abbrev pub inside : List Member → ℕ → Bool → Inside
 inside places count cut = record { places = places; count = count; cut = cut }
 
 -- what callers see gives the places back
 pub filled-several_of : (m : Inside) → IsFilled m → filled (several_of m) ≡ m
 filled-several_of m h =
-    let places = padded_front m.places m.count h.whole h.most h.rest in
+    let places = padded_front blank m.places m.count h.whole h.most h.rest in
     let count = length_front m.places m.count h.whole h.most in
     ap (λ xs. inside xs (length (take m.count m.places)) m.cut) places ∙ ap (λ n. inside m.places n m.cut) count

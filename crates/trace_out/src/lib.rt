@@ -10,6 +10,7 @@
 #![tactic(auto)]
 
 mod gate;
+mod line;
 mod mem_sink;
 mod mem_source;
 mod sink;
@@ -19,6 +20,7 @@ mod std_io;
 mod writing;
 
 pub use gate::{Gate, OpenGate};
+pub use line::{Did, Line, Said2};
 pub use mem_sink::MemSink;
 pub use mem_source::MemSource;
 pub use sink::Sink;

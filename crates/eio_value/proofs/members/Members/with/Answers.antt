@@ -10,6 +10,6 @@ invariant_of-t-5 c = record {
   whole = grind (arith, common_steps);
   least = grind arith;
   most = grind arith;
-  rest = rest_after _ _ _ c.self.invariant.whole c.if-self-lt8.true c.self.invariant.rest;
+  rest = rest_after _ _ _ _ c.self.invariant.whole c.if-self-lt8.true c.self.invariant.rest;
   distinct = distinct_after _ _ _ c.self.invariant.whole c.if-self-lt8.true c.self.invariant.distinct (subst (λ s. All (HasOtherSerial c.args.member.serial) s.members) (sym c.self.view_is) c.requires);
 }
