@@ -4,3 +4,4 @@ pub mod Work
 pub mod Silent
 pub mod Settling
 pub mod Replies
+pub mod Numbered

@@ -16,7 +16,7 @@ use Rattle.step_model.specs.Work.{Carry}
 use Rattle.step_model.specs.Silent.{statement}
 use Rattle.step_model.specs.Settling.{answered}
 use Rattle.step_model.specs.Replies.{begun, begun_promising}
-use Rattle.step_rows.specs.Replied.{Gives, Throws, Cancels, Enters, Passes, Waits, done, raise, ends, fails, block, calls_from}
+use Rattle.step_rows.specs.Replied.{Gives, Throws, Cancels, Enters, Passes, Waits, done, raise, ends, fails, block, calls_from, settled}
 use Rattle.step_rows.specs.Runs.{calls}
 
 abbrev int : ℕ → Value
@@ -133,11 +133,11 @@ behind_directory = refl
 abbrev fresh : Carry
 fresh = record { variables = int 4 ∷ []; texts = []; serial = 2 }
 
-resolves_with_value : calls_from (done ∷ []) (begun_promising 6 (Begins 0 (Then (Give (Variable 0)) Done)) fresh) ≡ ResolveEnd 6 (Ok (int 4)) ∷ ends Unit ∷ []
+resolves_with_value : calls_from (done ∷ []) (settled (begun_promising 6 (Begins 0 (Then (Give (Variable 0)) Done)) fresh.variables) fresh) ≡ ResolveEnd 6 (Ok (int 4)) ∷ ends Unit ∷ []
 unfolding value_of values_of statement answered
 resolves_with_value = refl
 
-resolves_with_exception : calls_from (Throws (Invalid Resolved) ∷ []) (begun_promising 6 (Begins 0 (Then (Raise (text_id 0)) Done)) fresh) ≡ ResolveEnd 6 (Err (raise 2 (failure 0))) ∷ fails 3 (Invalid Resolved) ∷ []
+resolves_with_exception : calls_from (Throws (Invalid Resolved) ∷ []) (settled (begun_promising 6 (Begins 0 (Then (Raise (text_id 0)) Done)) fresh.variables) fresh) ≡ ResolveEnd 6 (Err (raise 2 (failure 0))) ∷ fails 3 (Invalid Resolved) ∷ []
 unfolding value_of values_of statement answered
 resolves_with_exception = refl
 
@@ -146,6 +146,6 @@ job_is_given : calls (codes "(eio 1 (executor e 0) (main (let a 1) (let b 2) (le
 unfolding calls
 job_is_given = refl
 
-job_ends : calls_from [] (begun (Begins 8 (Then (Give (Variable 1)) Done)) (record { variables = Text (text_id 1) ∷ int 1 ∷ []; texts = []; serial = 0 })) ≡ ends (int 1) ∷ []
+job_ends : calls_from [] (settled (begun (Begins 8 (Then (Give (Variable 1)) Done)) (Text (text_id 1) ∷ int 1 ∷ [])) fresh) ≡ ends (int 1) ∷ []
 unfolding value_of values_of statement answered
 job_ends = refl

@@ -1,17 +1,19 @@
 -- The words in which rows say how each call of a fiber is answered, and what they look at.
-use Rattle.std.specs.Prelude.{ℕ, List, [], ◌∷◌, map}
+use Rattle.std.specs.Prelude.{ℕ, true, List, [], ◌∷◌, map, Some, None}
 use Rattle.eio_value.specs.declared.value.Value.{Value}
 use Rattle.eio_value.specs.declared.value.Value.TheVariants as value
+use Rattle.eio_value.specs.declared.plain.Misuse.TheVariants.{SwitchFinished}
 use Rattle.eio_value.specs.declared.plain.Plain.{Plain}
+use Rattle.eio_value.specs.declared.plain.Plain.TheVariants.{Invalid}
 use Rattle.eio_value.specs.declared.raised.Raised.{Raised}
-use Rattle.eio_value.specs.declared.raised.Raised.TheVariants.{One}
+use Rattle.eio_value.specs.declared.raised.Raised.TheVariants.{One, Cancelled}
 use Rattle.eio_value.specs.declared.raised.Outcome.TheVariants as outcome
 use Rattle.script_model.specs.Syntax.{Block, Begins, Statements, Done}
-use Rattle.step_model.specs.Asks.{Ask, again}
+use Rattle.step_model.specs.Asks.{Ask, again, passing}
 use Rattle.step_model.specs.Asks as ask
-use Rattle.step_model.specs.Work.{Carry}
+use Rattle.step_model.specs.Work.{Work, Carry, restored, member, counted}
 use Rattle.step_model.specs.Settling.{Settled, answered, thrown}
-use Rattle.step_model.specs.Replies.{raised, cancelled, ended, entered, handled}
+use Rattle.step_model.specs.Replies.{Position, passed, entered, handled}
 
 pub data Reply : Type 0 where
   -- this value
@@ -29,15 +31,31 @@ pub data Reply : Type 0 where
   -- a handler with its variables, in a context of this number
   Handles : (context : ℕ) → Statements → List Value → Reply
 
+-- the next call of a fiber that stands here
+abbrev pub settled : Position → Carry → Settled
+settled position c = answered position.work value.Unit (restored position.variables c)
+
+-- goes on with a new raise of this exception, or of a cancellation for this reason
+abbrev pub raised : Plain → List Work → Carry → Settled
+raised what work c = thrown work (One (member what c)) (counted c)
+
+abbrev pub cancelled : (reason : Plain) → List Work → Carry → Settled
+cancelled reason work c = thrown work (Cancelled (member reason c)) (counted c)
+
+-- goes on behind an end that was answered `()`. The value of a handler of a switch that had finished is refused
+abbrev pub ended : Ask → List Work → Carry → Settled
+ended (ask.Leave context true (outcome.Ok it)) work c = raised (Invalid SwitchFinished) work c
+ended call work c = elim (passing call) [ Some it ↦ passed it work c | None ↦ answered work value.Unit c ]
+
 abbrev pub replied : Reply → Settled → Settled
 replied (Gives it) s = answered s.behind it s.carry
 replied (Throws what) s = raised what s.behind s.carry
 replied (ThrowsAgain r) s = thrown s.behind r s.carry
 replied (Cancels reason) s = cancelled reason s.behind s.carry
-replied (Enters number) s = entered s.call number s.behind s.carry
+replied (Enters number) s = settled (entered s.call number s.behind s.carry.variables) s.carry
 replied Passes s = ended s.call s.behind s.carry
 replied Waits s = record s { call = again s.call }
-replied (Handles context items variables) s = handled s.call context (Begins 0 items) variables s.behind s.carry
+replied (Handles context items variables) s = settled (handled s.call context (Begins 0 items) variables s.behind s.carry.variables) s.carry
 
 -- ## What rows look at
 

@@ -17,7 +17,7 @@ use Rattle.step_model.specs.Work.{Carry}
 use Rattle.step_model.specs.Silent.{statement}
 use Rattle.step_model.specs.Settling.{Settled, answered}
 use Rattle.step_model.specs.Replies.{begun}
-use Rattle.step_rows.specs.Replied.{Reply, calls_from, carried_from}
+use Rattle.step_rows.specs.Replied.{Reply, settled, calls_from, carried_from}
 
 unfoldable pub script : List ℕ → Option Script
 unfolding past_gap text_items run_tree trees_by tree_at reading bring used directory_of form_of item traced captured_behind read_statements steps entries workers declaration declarations_behind domains script_of
@@ -28,7 +28,7 @@ main_in [] = Begins 0 Done
 main_in (main ∷ others) = main
 
 abbrev pub opened : Script → Settled
-opened it = begun (main_in it.bodies) (record { variables = []; texts = it.texts; serial = 0 })
+opened it = settled (begun (main_in it.bodies) []) (record { variables = []; texts = it.texts; serial = 0 })
 
 -- the calls of main under these replies; none where the bytes are no script
 unfoldable pub calls : List ℕ → List Reply → List Ask
