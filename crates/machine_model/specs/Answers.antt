@@ -1,0 +1,94 @@
+-- What a command answers to its input: the text that it writes, and how it ends. `domains` isn't among these.
+use Rattle.std.specs.Prelude.{ℕ, ◌==◌, true, false, List, [], ◌∷◌, ◌++◌, length, codes, count_by, Option, Some, None, Result, Ok, Err}
+use Rattle.std.specs.Fmt.{decimal}
+use Rattle.script_model.specs.declared.Command.{Command}
+use Rattle.script_model.specs.declared.Command.TheVariants as command
+use Rattle.script_model.specs.Features.{Built}
+use Rattle.script_model.specs.Generator.{generated}
+use Rattle.script_model.specs.Inputs.{Checked, mocked_script, checked, printed}
+use Rattle.script_model.specs.Limits.{most_steps}
+use Rattle.script_model.specs.Refusals.{Refusal, refusal_line}
+use Rattle.script_model.specs.Scripts.{Script, script_of}
+use Rattle.script_model.specs.Words.{meaning}
+use Rattle.trace_out.specs.declared.status.Status.{Status}
+use Rattle.trace_out.specs.declared.status.Status.TheVariants as status
+use Rattle.trace_out.specs.Exits.{exit_code}
+use Rattle.machine_model.specs.declared.Ending.{Ending}
+use Rattle.machine_model.specs.declared.Ending.TheVariants as ending
+use Rattle.machine_model.specs.Trace.{Run, run, trace, ending_in, last_line}
+
+pub record Answer : Type 0 where
+  pub text : List ℕ
+  pub ending : Ending
+
+-- the status of an ending
+abbrev pub ended : Ending → Status
+ended ending.Ok = status.Ok
+ended ending.Raised = status.Raised
+ended ending.Refused = status.Refused
+ended ending.Deadlock = status.Deadlock
+ended ending.OutOfSteps = status.OutOfSteps
+ended ending.Limit = status.Limit
+
+abbrev pub refused_by : Refusal → Answer
+refused_by refusal = record { text = refusal_line refusal; ending = ending.Refused }
+
+-- ## `mock`
+
+-- the trace and the last line of a run
+abbrev pub told_by : Script → Run → Answer
+told_by script it = (let end = ending_in script it.last in record { text = trace script it.moves ++ last_line end it.last; ending = end })
+
+-- a script run in at most n moves
+unfoldable pub ran : Script → (n : ℕ) → Answer
+ran script n = told_by script (run script n)
+
+abbrev pub ran_if : (n : ℕ) → Result Script Refusal → Answer
+ran_if n (Ok script) = ran script n
+ran_if n (Err refusal) = refused_by refusal
+
+-- where these features are built
+unfoldable pub mocked : Built → (n : ℕ) → (bytes : List ℕ) → Answer
+mocked built n bytes = ran_if n (mocked_script built bytes)
+
+-- ## `load`
+
+abbrev pub line_feeds : List ℕ → ℕ
+line_feeds bytes = count_by (λ b. b == 10) bytes
+
+abbrev pub counted_line : (what : List ℕ) → ℕ → List ℕ
+counted_line what n = what ++ decimal n ++ codes "\n"
+
+-- four lines: how many fibers were made, how many moves, how many lines the trace has, and the number of the status
+abbrev pub counts_of : Script → Run → Answer
+counts_of script it = (let end = ending_in script it.last in record {
+  text =
+    counted_line (codes "fibers ") (length it.last.local.fibers)
+    ++ counted_line (codes "moves ") (length it.moves)
+    ++ counted_line (codes "lines ") (line_feeds (trace script it.moves))
+    ++ counted_line (codes "status ") (exit_code (ended end));
+  ending = end;
+})
+
+-- the generated script of so many forks, run in as many steps as may be. It is a script, so that the other case never comes
+unfoldable pub loaded : (forks : ℕ) → Answer
+loaded forks = elim (script_of (generated forks)) [
+  | Ok script ↦ counts_of script (run script most_steps)
+  | Err fault ↦ record { text = []; ending = ending.Refused }
+]
+
+-- ## Commands
+
+abbrev pub checked_as : Checked → Answer
+checked_as it = record { text = it.text; ending = elim it.is_refused [ true ↦ ending.Refused | false ↦ ending.Ok ] }
+
+abbrev pub answer_for : Built → Command → (bytes : List ℕ) → Option Answer
+answer_for built (command.Mock steps) bytes = Some (mocked built steps bytes)
+answer_for built (command.Domains lines) bytes = None
+answer_for built command.Check bytes = Some (checked_as (checked bytes))
+answer_for built command.Print bytes = Some (checked_as (printed bytes))
+answer_for built (command.Load forks) bytes = Some (loaded forks)
+
+-- the answer to words and an input, where the words have a meaning and don't ask for `domains`
+unfoldable pub answered : Built → (words : List (List ℕ)) → (bytes : List ℕ) → Option Answer
+answered built words bytes = elim (meaning built words) [ None ↦ None | Some it ↦ answer_for built it bytes ]

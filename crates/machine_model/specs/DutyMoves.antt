@@ -1,0 +1,71 @@
+-- Obligations: strikes, wakes and starts, which a domain makes before anything else.
+use Rattle.std.specs.Prelude.{ℕ, Bool, true, false, List, [], ◌∷◌, Option, Some, None}
+use Rattle.std.specs.Option.{unwrap_or}
+use Rattle.eio_value.specs.declared.call.Answer.{Answer}
+use Rattle.eio_value.specs.declared.call.Answer.TheVariants as answer
+use Rattle.eio_value.specs.declared.plain.Plain.TheVariants.{Exit}
+use Rattle.eio_value.specs.declared.raised.Outcome.TheVariants as outcome
+use Rattle.eio_value.specs.declared.raised.Raised.TheVariants.{Cancelled}
+use Rattle.row_model.specs.Timers.{remove}
+use Rattle.trace_out.specs.declared.line.Did.{Did}
+use Rattle.trace_out.specs.declared.line.Did.TheVariants as did
+use Rattle.trace_out.specs.declared.line.Said2.TheVariants as said
+use Rattle.machine_model.specs.Domain.{Next, GoesOn, Wait, OnObject, Asleep, ForCancel, ForOthers, Resting, Standing, Ready, Parked, Ended, Duty, Owed, Strike, Wake, Start, DomainState, fiber_at, off_for, to_back}
+use Rattle.machine_model.specs.Steps.{Step, told, member, counted, halts}
+
+-- ## Strikes
+
+-- a fiber that still waits goes to the back with a new `Cancelled`, for the reason by which its context is off
+abbrev pub cancelled : (fiber : ℕ) → DomainState → DomainState
+cancelled g l = to_back (GoesOn (outcome.Err (Cancelled (member (unwrap_or (off_for l g) Exit) l)))) g (counted l)
+
+abbrev pub strike_told : Duty → (fiber : ℕ) → (won : Bool) → DomainState → Step
+strike_told duty g true l = told duty.maker (did.Strike l.number g) said.Won (cancelled g l)
+strike_told duty g false l = told duty.maker (did.Strike l.number g) said.Lost l
+
+-- a strike that the domain makes by itself: a fiber that waits for the clock, or in `await-cancel`, waits still; one that is ready was woken
+abbrev pub own_strike : Duty → (fiber : ℕ) → Standing → DomainState → Step
+own_strike duty g (Parked Asleep) l = strike_told duty g true (record l { timers = remove g l.timers })
+own_strike duty g (Parked ForCancel) l = strike_told duty g true l
+own_strike duty g standing l = strike_told duty g false l
+
+-- an obligation for which nothing came from outside: a strike, or a start for which there is no room
+abbrev pub own_duty : Duty → DomainState → Step
+own_duty duty l = elim duty.owed [
+  | Strike g ↦ own_strike duty g (fiber_at l.fibers g).standing l
+  | Wake object poisoned ↦ halts duty.maker l
+  | Start executor ↦ halts duty.maker l
+]
+
+abbrev pub duty_struck : Duty → (won : Bool) → DomainState → Step
+duty_struck duty won l = elim duty.owed [
+  | Strike g ↦ strike_told duty g won l
+  | Wake object poisoned ↦ halts duty.maker l
+  | Start executor ↦ halts duty.maker l
+]
+
+-- ## Wakes and starts
+
+-- the obligation stays until nothing is left to be done
+abbrev pub stays : Duty → DomainState → DomainState
+stays duty l = record l { duties = duty ∷ l.duties }
+
+-- each fiber that waits for a poisoned mutex has a raise of its own
+abbrev pub counted_if : Bool → DomainState → DomainState
+counted_if true l = counted l
+counted_if false l = l
+
+abbrev pub wake_told : Duty → (object : ℕ) → (poisoned : Bool) → Answer → DomainState → Step
+wake_told duty object poisoned (answer.Woke who) l = told duty.maker (did.Wake object) (said.Fiber who.domain who.fiber) (stays duty (counted_if poisoned l))
+wake_told duty object poisoned other l = told duty.maker (did.Wake object) said.Nothing l
+
+abbrev pub start_told : Duty → (executor : ℕ) → Answer → DomainState → Step
+start_told duty executor (answer.Started domain number) l = told duty.maker (did.Start executor) (said.Started domain number) (stays duty l)
+start_told duty executor other l = told duty.maker (did.Start executor) said.Nothing l
+
+abbrev pub duty_answered : Duty → Answer → DomainState → Step
+duty_answered duty it l = elim duty.owed [
+  | Strike g ↦ halts duty.maker l
+  | Wake object poisoned ↦ wake_told duty object poisoned it l
+  | Start executor ↦ start_told duty executor it l
+]

@@ -1,0 +1,15 @@
+pub mod Domain
+pub mod Shared
+pub mod Labels
+pub mod Preparing
+pub mod Asking
+pub mod Steps
+pub mod ContextMoves
+pub mod SwitchMoves
+pub mod GroupMoves
+pub mod EndMoves
+pub mod ObjectMoves
+pub mod ClockMoves
+pub mod MockMoves
+pub mod DutyMoves
+pub mod Moves
