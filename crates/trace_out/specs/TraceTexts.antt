@@ -1,5 +1,5 @@
 -- The lines of the trace that a move writes.
-use Rattle.std.specs.Prelude.{ℕ, List, [], ◌∷◌, ◌++◌, codes, slice_get, Some, None}
+use Rattle.std.specs.Prelude.{ℕ, List, [], ◌∷◌, ◌++◌, codes}
 use Rattle.std.specs.Fmt.{signed_decimal}
 use Rattle.std.specs.List.{flat_map}
 use Rattle.eio_value.specs.declared.mock_call.Said.{Said}
@@ -11,19 +11,15 @@ use Rattle.eio_value.specs.Values.{show}
 use Rattle.trace_out.specs.declared.line.Did.{Did}
 use Rattle.trace_out.specs.declared.line.Did.TheVariants.{Trace, Tick, Mock}
 use Rattle.trace_out.specs.declared.line.Line.{Line}
+use Rattle.trace_out.specs.Names.{name_at}
 
 -- a text as a line of the trace: a plus before it, and LF at its end
 abbrev pub trace_line : List ℕ → List ℕ
 trace_line text = 43 ∷ (text ++ 10 ∷ [])
 
--- the name of the flow that was declared at this place: flows are numbered from 0 in order of declaration,
--- and a number without a name stands for no bytes
-abbrev pub flow_name : (texts : List (List ℕ)) → (names : List TextId) → (flow : ℕ) → List ℕ
-flow_name texts names flow = elim (slice_get names flow) [ Some id ↦ text_at texts id | None ↦ [] ]
-
--- what was done with these bytes of a flow: its name, a colon, a space, what was done, a space, and the bytes in quotes
+-- what was done with these bytes of a flow: the flow's name, a colon, a space, what was done, a space, and the bytes in quotes
 abbrev pub flow_line : (texts : List (List ℕ)) → (names : List TextId) → (flow : ℕ) → (what : List ℕ) → (bytes : TextId) → List ℕ
-flow_line texts names flow what bytes = trace_line (flow_name texts names flow ++ 58 ∷ 32 ∷ (what ++ 32 ∷ quoted (text_at texts bytes)))
+flow_line texts names flow what bytes = trace_line (name_at texts names flow ++ 58 ∷ 32 ∷ (what ++ 32 ∷ quoted (text_at texts bytes)))
 
 -- these bytes were read from a flow
 abbrev pub read_line : (texts : List (List ℕ)) → (names : List TextId) → (flow : ℕ) → (bytes : TextId) → List ℕ
