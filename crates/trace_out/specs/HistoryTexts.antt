@@ -132,5 +132,8 @@ reply_text texts said.Lost = codes "lost"
 -- and LF at the end
 abbrev pub line_text : (texts : List (List ℕ)) → (names : List TextId) → Line → List ℕ
 line_text texts names line =
-    spaced (decimal line.stamp) (spaced (fiber_text line.domain line.fiber) (spaced (did_text texts names line.did) (spaced (codes "=") (reply_text texts line.reply))))
+    spaced (decimal line.stamp)
+    (spaced (fiber_text line.domain line.fiber)
+    (spaced (did_text texts names line.did)
+    (spaced (codes "=") (reply_text texts line.reply))))
     ++ 10 ∷ []
