@@ -1,7 +1,7 @@
 //! What no clause says: that a call gets through, what the devices do at values from outside, and what
 //! happens to a reader and a writer that fail.
 use super::*;
-use eio_value::NoMemory;
+use eio_value::{NoMemory, Operands, Value};
 use std::alloc::Global;
 use std::io;
 use std::io::{ErrorKind, Read, Write};
@@ -237,4 +237,12 @@ fn statuses_are_numbered(rt: HostRuntime) {
     for (status, number) in numbers {
         assert_eq!(rt; status.code(), number, "of {status:?}");
     }
+}
+
+#[test]
+fn operands_are_listed(rt: HostRuntime) {
+    let none = Operands::none();
+    assert!(rt; none.as_slice().is_empty());
+    let two = none.with(Value::Int(-5)).with(Value::Unit);
+    assert_eq!(rt; two.as_slice(), [Value::Int(-5), Value::Unit].as_slice());
 }
