@@ -1,5 +1,6 @@
 pub mod Domain
 pub mod Shared
+pub mod Outside
 pub mod Labels
 pub mod Preparing
 pub mod Asking
@@ -13,3 +14,6 @@ pub mod ClockMoves
 pub mod MockMoves
 pub mod DutyMoves
 pub mod Moves
+pub mod Mock
+pub mod Trace
+pub mod Answers
