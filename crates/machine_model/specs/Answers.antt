@@ -1,5 +1,5 @@
 -- What a command answers to its input: the text that it writes, and how it ends. `domains` isn't among these.
-use Rattle.std.specs.Prelude.{ℕ, ◌==◌, true, false, List, [], ◌∷◌, ◌++◌, length, codes, count_by, Option, Some, None, Result, Ok, Err}
+use Rattle.std.specs.Prelude.{ℕ, ◌==◌, true, false, List, [], ◌++◌, length, codes, count_by, Option, Some, None, Result, Ok, Err}
 use Rattle.std.specs.Fmt.{decimal}
 use Rattle.script_model.specs.declared.Command.{Command}
 use Rattle.script_model.specs.declared.Command.TheVariants as command
@@ -63,10 +63,10 @@ counted_line what n = what ++ decimal n ++ codes "\n"
 abbrev pub counts_of : Script → Run → Answer
 counts_of script it = (let end = ending_in script it.last in record {
   text =
-    counted_line (codes "fibers ") (length it.last.local.fibers)
-    ++ counted_line (codes "moves ") (length it.moves)
-    ++ counted_line (codes "lines ") (line_feeds (trace script it.moves))
-    ++ counted_line (codes "status ") (exit_code (ended end));
+      counted_line (codes "fibers ") (length it.last.local.fibers)
+      ++ counted_line (codes "moves ") (length it.moves)
+      ++ counted_line (codes "lines ") (line_feeds (trace script it.moves))
+      ++ counted_line (codes "status ") (exit_code (ended end));
   ending = end;
 })
 

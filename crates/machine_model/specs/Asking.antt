@@ -1,6 +1,6 @@
 -- What a domain asks from outside for its next move. The calls on shared objects and on the mocked outside are those that a fiber makes; all else that a domain
 -- does is its own.
-use Rattle.std.specs.Prelude.{ℕ, ◌-◌, Bool, true, false, ◌||◌, List, [], ◌++◌, length, replicate, ℤ, Some, None, is_some}
+use Rattle.std.specs.Prelude.{ℕ, ◌-◌, Bool, true, false, ◌||◌, List, ◌++◌, length, replicate, is_some}
 use Rattle.eio_value.specs.declared.call.Call.{Call}
 use Rattle.eio_value.specs.declared.call.Call.TheVariants as call
 use Rattle.eio_value.specs.declared.message.Job.{Job}
@@ -17,7 +17,7 @@ use Rattle.script_model.specs.Syntax.{Block, ObjectCall, ObjectCallWith, ReaderC
 use Rattle.step_model.specs.Asks as ask
 use Rattle.step_model.specs.Asks.{Ask, Place, Declared, Opened}
 use Rattle.step_model.specs.Numbered.{number_of}
-use Rattle.machine_model.specs.Domain.{Role, OfBody, OfJob, OfSwitch, OfGroup, OfWriter, Wait, OnObject, Asleep, ForCancel, ForOthers, Resting, Standing, Ready, Parked, Ended, Duty, Strike, Wake, Start, DomainState, fiber_at, off_for, is_full_by, wait_of}
+use Rattle.machine_model.specs.Domain.{Role, OfJob, OnObject, Standing, Parked, Duty, Strike, Wake, Start, DomainState, fiber_at, off_for, is_full_by, wait_of}
 use Rattle.machine_model.specs.Labels.{Asks, Idle, Own, Calls, Strikes, Mocks}
 use Rattle.machine_model.specs.Preparing as doing
 use Rattle.machine_model.specs.Preparing.{Prepared}

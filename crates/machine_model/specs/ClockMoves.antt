@@ -1,12 +1,12 @@
 -- The mock clock: `sleep`, `now`, and the jump to the time at which the next fiber is due.
-use Rattle.std.specs.Prelude.{ℕ, true, false, int_lt, List, [], ◌∷◌, ℤ, pos, ◌+ℤ◌, Some, None, fold}
+use Rattle.std.specs.Prelude.{ℕ, true, false, int_lt, List, [], ◌∷◌, ℤ, pos, ◌+ℤ◌, Some, None}
 use Rattle.std.specs.Option.{unwrap_or}
 use Rattle.eio_value.specs.declared.mock_call.Said.TheVariants.{Nothing}
 use Rattle.eio_value.specs.declared.plain.Misuse.TheVariants.{Overflow}
 use Rattle.eio_value.specs.declared.plain.Plain.TheVariants.{Invalid}
 use Rattle.eio_value.specs.declared.raised.Outcome.TheVariants as outcome
 use Rattle.eio_value.specs.declared.value.Value.TheVariants as value
-use Rattle.row_model.specs.Timers.{Timers, add, earliest, is_due, due_fibers}
+use Rattle.row_model.specs.Timers.{add, earliest, is_due, due_fibers}
 use Rattle.script_model.specs.Limits.{is_within}
 use Rattle.std.specs.Prelude.{filter, not}
 use Rattle.trace_out.specs.declared.line.Did.{Did}

@@ -8,7 +8,6 @@ use Rattle.eio_value.specs.declared.raised.Outcome.{Outcome}
 use Rattle.eio_value.specs.declared.raised.Outcome.TheVariants as outcome
 use Rattle.eio_value.specs.declared.value.TextId.{TextId}
 use Rattle.eio_value.specs.declared.value.Value.TheVariants as value
-use Rattle.row_model.specs.Contexts as contexts
 use Rattle.row_model.specs.Contexts.{Made, sub, protect, end, context_at, is_live}
 use Rattle.step_model.specs.Asks.{Ask}
 use Rattle.step_model.specs.Replies.{Position, entered}

@@ -1,7 +1,7 @@
 -- What one domain is: its fibers and how each stands, its ready list and obligations, its contexts, switches and groups, and its clock.
 -- Fibers, contexts, switches and groups are lists in which each stands at the place of its number; no number is used again. A fiber is parked from the
 -- answer `waits` until its domain moves it on.
-use Rattle.std.specs.Prelude.{ℕ, ◌+◌, ◌*◌, ◌^◌, Bool, true, false, not, nat_lt, List, [], ◌∷◌, ◌++◌, length, count_by, slice_get, slice_set, ℤ, pos, Option, Some, None}
+use Rattle.std.specs.Prelude.{ℕ, ◌+◌, ◌*◌, ◌^◌, Bool, true, false, not, nat_lt, List, [], ◌∷◌, ◌++◌, count_by, slice_get, slice_set, ℤ, pos, Option}
 use Rattle.std.specs.Option.{unwrap_or}
 use Rattle.eio_value.specs.declared.message.Waiter.{Waiter}
 use Rattle.eio_value.specs.declared.plain.Plain.{Plain}

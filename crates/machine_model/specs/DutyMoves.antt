@@ -1,5 +1,5 @@
 -- Obligations: strikes, wakes and starts, which a domain makes before anything else.
-use Rattle.std.specs.Prelude.{ℕ, Bool, true, false, List, [], ◌∷◌, Option, Some, None}
+use Rattle.std.specs.Prelude.{ℕ, Bool, true, false, ◌∷◌}
 use Rattle.std.specs.Option.{unwrap_or}
 use Rattle.eio_value.specs.declared.call.Answer.{Answer}
 use Rattle.eio_value.specs.declared.call.Answer.TheVariants as answer
@@ -7,10 +7,9 @@ use Rattle.eio_value.specs.declared.plain.Plain.TheVariants.{Exit}
 use Rattle.eio_value.specs.declared.raised.Outcome.TheVariants as outcome
 use Rattle.eio_value.specs.declared.raised.Raised.TheVariants.{Cancelled}
 use Rattle.row_model.specs.Timers.{remove}
-use Rattle.trace_out.specs.declared.line.Did.{Did}
 use Rattle.trace_out.specs.declared.line.Did.TheVariants as did
 use Rattle.trace_out.specs.declared.line.Said2.TheVariants as said
-use Rattle.machine_model.specs.Domain.{Next, GoesOn, Wait, OnObject, Asleep, ForCancel, ForOthers, Resting, Standing, Ready, Parked, Ended, Duty, Owed, Strike, Wake, Start, DomainState, fiber_at, off_for, to_back}
+use Rattle.machine_model.specs.Domain.{GoesOn, Asleep, ForCancel, Standing, Parked, Duty, Strike, Wake, Start, DomainState, fiber_at, off_for, to_back}
 use Rattle.machine_model.specs.Steps.{Step, told, member, counted, halts}
 
 -- ## Strikes

@@ -1,5 +1,5 @@
 -- The ends of fibers, and the fibers that jobs and messages make or resume.
-use Rattle.std.specs.Prelude.{ℕ, true, false, List, ◌++◌, [], ◌∷◌, length, take, Option, Some, None}
+use Rattle.std.specs.Prelude.{ℕ, true, false, length, take, Option, Some, None}
 use Rattle.eio_value.specs.declared.message.Job.{Job}
 use Rattle.eio_value.specs.declared.message.Message.{Message}
 use Rattle.eio_value.specs.declared.message.Message.TheVariants as message
@@ -12,7 +12,7 @@ use Rattle.step_model.specs.Numbered.{block_numbered}
 use Rattle.step_model.specs.Replies.{begun}
 use Rattle.trace_out.specs.declared.line.Did.TheVariants as did
 use Rattle.trace_out.specs.declared.line.Said2.TheVariants as said
-use Rattle.machine_model.specs.Domain.{Role, OfBody, OfJob, OfSwitch, OfGroup, OfWriter, Next, GoesOn, Duty, Owed, Start, DomainState, fiber_at, made, ended, to_back}
+use Rattle.machine_model.specs.Domain.{Role, OfBody, OfJob, OfSwitch, OfGroup, OfWriter, GoesOn, DomainState, fiber_at, made, ended, to_back}
 use Rattle.machine_model.specs.Steps.{Step, told, reply_of, halts}
 use Rattle.machine_model.specs.Asking.{is_full_for_one}
 use Rattle.machine_model.specs.ContextMoves.{context_of}

@@ -1,12 +1,10 @@
 -- Calls on groups: branches that run side by side in one context, of which the caller runs the last.
 -- `join` is called at the end of the caller's own branch, and again once the last branch has ended.
-use Rattle.std.specs.Prelude.{ℕ, ◌+◌, ◌-◌, zero, suc, true, false, ◌||◌, List, [], ◌∷◌, ◌++◌, length, Option, Some, None}
+use Rattle.std.specs.Prelude.{ℕ, ◌+◌, ◌-◌, zero, suc, true, false, List, [], ◌∷◌, ◌++◌, length, Option, Some, None}
 use Rattle.eio_value.specs.declared.plain.Plain.{Plain}
 use Rattle.eio_value.specs.declared.raised.Outcome.{Outcome}
 use Rattle.eio_value.specs.declared.raised.Outcome.TheVariants as outcome
 use Rattle.eio_value.specs.declared.value.Value.{Value}
-use Rattle.eio_value.specs.declared.value.Value.TheVariants as value
-use Rattle.row_model.specs.Contexts.{is_full}
 use Rattle.row_model.specs.Groups as groups
 use Rattle.row_model.specs.Groups.{GroupKind, Group, gathered, group_at, with_group, BranchEnded, branch_ends, JoinStep, Joined, join}
 use Rattle.script_model.specs.Syntax as syntax
@@ -17,7 +15,7 @@ use Rattle.trace_out.specs.declared.line.Did.{Did}
 use Rattle.trace_out.specs.declared.line.Did.TheVariants as did
 use Rattle.trace_out.specs.declared.line.Said2.{Said2}
 use Rattle.trace_out.specs.declared.line.Said2.TheVariants as said
-use Rattle.machine_model.specs.Domain.{Wait, ForOthers, OfGroup, DomainState, fiber_at, made, off_for, is_full_by}
+use Rattle.machine_model.specs.Domain.{ForOthers, OfGroup, DomainState, fiber_at, made, off_for, is_full_by}
 use Rattle.machine_model.specs.Steps.{Step, answers, raises_cancelled, waits, halts, in_new, cancels}
 use Rattle.machine_model.specs.ContextMoves.{context_of, sub_of, before_block, enters_context, leaves}
 use Rattle.machine_model.specs.SwitchMoves.{woken_if}

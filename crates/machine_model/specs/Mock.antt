@@ -1,6 +1,5 @@
 -- A run on one mocked domain. All that is outside lies beside the domain, so that nothing in a move is free.
 use Rattle.std.specs.Prelude.{ℕ, zero, suc, ◌+◌, true, false, List, [], ◌∷◌, ◌*◌, length, map, Option, Some, None}
-use Rattle.eio_value.specs.declared.raised.Outcome.{Outcome}
 use Rattle.row_model.specs.Contexts.{root}
 use Rattle.row_model.specs.Row.{Stepped}
 use Rattle.script_model.specs.Opening.{opening_texts}

@@ -1,23 +1,21 @@
 -- How a fiber goes on by what the mocked outside answered: flows, readers, writers and directories.
 -- A writer has a copier: a fiber of its own in a protected context, made with the writer, first in the ready list. Whoever puts something wakes a copier that rests;
 -- `shut` wakes it too, and waits until it has ended.
-use Rattle.std.specs.Prelude.{ℕ, ◌==◌, Bool, true, false, ◌&&◌, List, [], ◌∷◌, ◌++◌, length, position, pos, Option, Some, None}
+use Rattle.std.specs.Prelude.{ℕ, ◌==◌, Bool, true, false, ◌&&◌, List, [], ◌∷◌, length, position, Option, Some, None}
 use Rattle.eio_value.specs.declared.mock_call.Extra.{Extra}
 use Rattle.eio_value.specs.declared.mock_call.Extra.TheVariants as extra
 use Rattle.eio_value.specs.declared.mock_call.Said.{Said}
 use Rattle.eio_value.specs.declared.mock_call.Said.TheVariants.{Nothing}
-use Rattle.eio_value.specs.declared.raised.Outcome.{Outcome}
 use Rattle.eio_value.specs.declared.raised.Outcome.TheVariants as outcome
 use Rattle.eio_value.specs.declared.value.Value.{Value}
 use Rattle.eio_value.specs.declared.value.Value.TheVariants as value
 use Rattle.eio_value.specs.Table.{text_at}
-use Rattle.row_model.specs.Contexts.{Made}
 use Rattle.step_model.specs.Asks as ask
 use Rattle.step_model.specs.Asks.{Ask, again, passing}
 use Rattle.step_model.specs.Evaluation.{number_in}
 use Rattle.trace_out.specs.declared.line.Did.TheVariants as did
 use Rattle.trace_out.specs.declared.line.Said2.TheVariants as said
-use Rattle.machine_model.specs.Domain.{Role, OfBody, OfJob, OfSwitch, OfGroup, OfWriter, Next, GoesOn, CallsAgain, Wait, OnObject, Asleep, ForCancel, ForOthers, Resting, Standing, Ready, Parked, Ended, Fiber, DomainState, fiber_at, made, has_ended, stands, to_head, to_back}
+use Rattle.machine_model.specs.Domain.{Role, OfWriter, GoesOn, CallsAgain, ForOthers, Resting, Standing, Parked, Fiber, DomainState, made, stands, to_head, to_back}
 use Rattle.machine_model.specs.Steps.{Step, told, answers, raises_again, enters, counted, in_new}
 use Rattle.machine_model.specs.ContextMoves.{protected_of, before_block}
 use Rattle.machine_model.specs.SwitchMoves.{woken_if}

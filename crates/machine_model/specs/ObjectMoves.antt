@@ -1,10 +1,9 @@
 -- How a fiber goes on by what its call on a shared object was answered, and what the domain then owes.
-use Rattle.std.specs.Prelude.{ℕ, ◌==◌, Bool, true, false, List, [], ◌∷◌, ◌++◌, pos, Option, Some, None}
+use Rattle.std.specs.Prelude.{ℕ, ◌==◌, true, false, [], ◌∷◌, ◌++◌, pos, Option, Some, None}
 use Rattle.eio_value.specs.declared.call.Answer.{Answer}
 use Rattle.eio_value.specs.declared.call.Answer.TheVariants as answer
 use Rattle.eio_value.specs.declared.raised.Outcome.{Outcome}
 use Rattle.eio_value.specs.declared.raised.Outcome.TheVariants as outcome
-use Rattle.eio_value.specs.declared.raised.Raised.{Raised}
 use Rattle.eio_value.specs.declared.value.Value.{Value}
 use Rattle.eio_value.specs.declared.value.Value.TheVariants as value
 use Rattle.script_model.specs.Syntax as syntax
@@ -15,10 +14,10 @@ use Rattle.trace_out.specs.declared.line.Did.{Did}
 use Rattle.trace_out.specs.declared.line.Did.TheVariants as did
 use Rattle.trace_out.specs.declared.line.Said2.{Said2}
 use Rattle.trace_out.specs.declared.line.Said2.TheVariants as said
-use Rattle.machine_model.specs.Domain.{Next, GoesOn, Wait, OnObject, Role, OfBody, OfJob, OfSwitch, OfGroup, OfWriter, Duty, Owed, Wake, Start, DomainState, fiber_at, to_head}
+use Rattle.machine_model.specs.Domain.{GoesOn, OnObject, Role, OfJob, Owed, Wake, Start, DomainState, fiber_at, to_head}
 use Rattle.machine_model.specs.Shared.{Asked}
-use Rattle.machine_model.specs.Steps.{Step, told, answers, does, raises_again, waits, goes_off, halts, counted}
-use Rattle.machine_model.specs.EndMoves.{ends, end_told}
+use Rattle.machine_model.specs.Steps.{Step, told, does, raises_again, waits, goes_off, halts, counted}
+use Rattle.machine_model.specs.EndMoves.{ends}
 
 -- ## What the line tells
 

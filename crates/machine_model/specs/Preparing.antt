@@ -1,6 +1,6 @@
 -- How a move begins: what the domain does next. That is its first obligation; else the next call of the head of its ready list, up to which that fiber runs its
 -- silent statements; else, where a timer stands, a jump of the clock.
-use Rattle.std.specs.Prelude.{ℕ, List, [], ◌∷◌, ◌+◌, Option, Some, None}
+use Rattle.std.specs.Prelude.{ℕ, [], ◌∷◌, Option, Some, None}
 use Rattle.std.specs.Option.{unwrap_or}
 use Rattle.eio_value.specs.declared.plain.Plain.{Plain}
 use Rattle.eio_value.specs.declared.plain.Plain.TheVariants.{Exit}
@@ -11,7 +11,7 @@ use Rattle.step_model.specs.Asks.{Ask}
 use Rattle.step_model.specs.Replies.{passed}
 use Rattle.step_model.specs.Settling.{Settled, thrown}
 use Rattle.step_model.specs.Work.{Carry, member, counted}
-use Rattle.machine_model.specs.Domain.{Role, OfBody, OfJob, OfSwitch, OfGroup, OfWriter, Next, GoesOn, LooksUp, FindsOff, CallsAgain, Standing, Ready, Parked, Ended, Fiber, Duty, DomainState, fiber_at, with_fiber, off_for}
+use Rattle.machine_model.specs.Domain.{Role, OfWriter, Next, GoesOn, LooksUp, FindsOff, CallsAgain, Standing, Ready, Parked, Ended, Fiber, Duty, DomainState, fiber_at, with_fiber, off_for}
 
 -- what the domain does next: nothing; what it owes; a call of a fiber; a move of a writer's copier; or a jump of the clock
 pub data Doing : Type 0 where
@@ -54,13 +54,14 @@ abbrev pub moves_of : Role → ℕ → Fiber → Next → DomainState → Prepar
 moves_of (OfWriter writer) g fiber next l = record { doing = Carries g writer; state = l }
 moves_of role g fiber next l = called_by g fiber (next_call next (off_for l g) fiber (carry_of fiber l)) l
 
--- only fibers that are ready stand in the ready list
+-- only fibers that are ready stand in the ready list, so that the other cases never come
+abbrev pub next_of : Standing → Next
+next_of (Ready next) = next
+next_of (Parked wait) = GoesOn (outcome.Ok value.Unit)
+next_of (Ended it) = GoesOn it
+
 abbrev pub moves : ℕ → Fiber → DomainState → Prepared
-moves g fiber l = elim fiber.standing [
-  | Ready next ↦ moves_of fiber.role g fiber next l
-  | Parked wait ↦ record { doing = Rests; state = l }
-  | Ended it ↦ record { doing = Rests; state = l }
-]
+moves g fiber l = moves_of fiber.role g fiber (next_of fiber.standing) l
 
 -- ## The move
 

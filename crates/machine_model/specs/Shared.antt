@@ -1,6 +1,6 @@
 -- What the domains share: the shared objects, the waits that are decided, and the posts. And what a call, a strike and a taken message do to it.
 -- Whether a wait is still undecided, was woken or was cancelled lies here; a domain learns it by a message, or by the reply of its strike.
-use Rattle.std.specs.Prelude.{ℕ, ◌+◌, Bool, true, false, ◌&&◌, ◌==◌, List, [], ◌∷◌, ◌++◌, length, map, take, drop, slice_get, slice_set, Option, Some, None}
+use Rattle.std.specs.Prelude.{ℕ, ◌+◌, Bool, true, false, ◌&&◌, ◌==◌, List, [], ◌∷◌, ◌++◌, map, take, drop, slice_get, slice_set, Option, Some, None}
 use Rattle.std.specs.Option.{unwrap_or}
 use Rattle.eio_value.specs.declared.call.Call.{Call}
 use Rattle.eio_value.specs.declared.message.Message.{Message}

@@ -15,7 +15,7 @@ use Rattle.trace_out.specs.declared.line.Did.{Did}
 use Rattle.trace_out.specs.declared.line.Did.TheVariants as did
 use Rattle.trace_out.specs.declared.line.Said2.{Said2}
 use Rattle.trace_out.specs.declared.line.Said2.TheVariants as said
-use Rattle.machine_model.specs.Domain.{Next, GoesOn, LooksUp, FindsOff, Wait, OnObject, Asleep, ForCancel, ForOthers, Resting, Standing, Ready, Parked, Ended, Fiber, Duty, Strike, DomainState, fiber_at, stands, to_head, to_back, placed, off_for}
+use Rattle.machine_model.specs.Domain.{GoesOn, LooksUp, FindsOff, Wait, ForOthers, Resting, Ready, Parked, Ended, Fiber, Duty, Strike, DomainState, stands, to_head, to_back, placed, off_for}
 
 -- the domain, and of its line the fiber, the call and the reply
 pub record Step : Type 0 where

@@ -3,7 +3,6 @@
 -- it was woken there, until it gives the body's value or raises the switch's errors.
 use Rattle.std.specs.Prelude.{ℕ, Bool, true, false, ◌&&◌, List, [], ◌∷◌, ◌++◌, length, Option, Some, None}
 use Rattle.eio_value.specs.declared.plain.Misuse.TheVariants.{SwitchFinished}
-use Rattle.eio_value.specs.declared.plain.Plain.{Plain}
 use Rattle.eio_value.specs.declared.plain.Plain.TheVariants.{Failure, Invalid, Exit}
 use Rattle.eio_value.specs.declared.raised.Outcome.{Outcome}
 use Rattle.eio_value.specs.declared.raised.Outcome.TheVariants as outcome
@@ -20,15 +19,14 @@ use Rattle.script_model.specs.Scripts.{Script}
 use Rattle.script_model.specs.Syntax as syntax
 use Rattle.script_model.specs.Syntax.{Block, Forking}
 use Rattle.step_model.specs.Asks.{Ask, again}
-use Rattle.step_model.specs.Asks as ask
 use Rattle.step_model.specs.Numbered.{number_of, block_numbered}
 use Rattle.step_model.specs.Replies.{Position, begun, begun_promising, handled}
 use Rattle.trace_out.specs.declared.line.Did.{Did}
 use Rattle.trace_out.specs.declared.line.Did.TheVariants as did
 use Rattle.trace_out.specs.declared.line.Said2.TheVariants as said
-use Rattle.machine_model.specs.Domain.{Next, GoesOn, CallsAgain, Wait, OnObject, Asleep, ForCancel, ForOthers, Resting, Standing, Ready, Parked, Ended, Role, OfSwitch, Fiber, DomainState, fiber_at, made, to_head, to_back, is_full_by}
-use Rattle.machine_model.specs.Steps.{Step, told, member, counted, does, raises, answers, gives, waits, halts, in_new, unless_off, cancels}
-use Rattle.machine_model.specs.ContextMoves.{context_of, sub_of, protected_of, before_block, enters_context, leaves}
+use Rattle.machine_model.specs.Domain.{GoesOn, CallsAgain, OnObject, Asleep, ForCancel, ForOthers, Resting, Ready, Parked, Ended, OfSwitch, Fiber, DomainState, fiber_at, made, to_head, to_back, is_full_by}
+use Rattle.machine_model.specs.Steps.{Step, told, member, counted, does, raises, answers, waits, halts, in_new, unless_off, cancels}
+use Rattle.machine_model.specs.ContextMoves.{sub_of, protected_of, before_block, enters_context, leaves}
 
 abbrev pub with : (switch : ℕ) → Switch → DomainState → DomainState
 with n switch l = record l { switches = with_switch n switch l.switches }

@@ -1,5 +1,5 @@
 -- What a run on one mocked domain writes, and how it ends.
-use Rattle.std.specs.Prelude.{ℕ, true, false, List, [], ◌∷◌, ◌++◌, length, codes, ◌==◌, count_by, Option, Some, None}
+use Rattle.std.specs.Prelude.{ℕ, true, false, List, [], ◌∷◌, ◌++◌, codes, Option, Some, None}
 use Rattle.std.specs.List.{flat_map}
 use Rattle.eio_value.specs.declared.raised.Outcome.{Outcome}
 use Rattle.eio_value.specs.declared.raised.Outcome.TheVariants as outcome
@@ -8,7 +8,7 @@ use Rattle.script_model.specs.Scripts.{Script}
 use Rattle.trace_out.specs.TraceTexts.{trace_text}
 use Rattle.machine_model.specs.declared.Ending.{Ending}
 use Rattle.machine_model.specs.declared.Ending.TheVariants as ending
-use Rattle.machine_model.specs.Domain.{Standing, Ready, Parked, Ended, DomainState, fiber_at}
+use Rattle.machine_model.specs.Domain.{Ready, Parked, Ended, DomainState, fiber_at}
 use Rattle.machine_model.specs.Mock.{Mock, Moved, opening, move, moves}
 
 -- the moves of a run, and what is there at its end
