@@ -24,7 +24,7 @@ use Rattle.machine_model.specs.GroupMoves.{branches, joins}
 use Rattle.machine_model.specs.EndMoves.{end_told, takes, received_if}
 use Rattle.machine_model.specs.ObjectMoves.{object_answered}
 use Rattle.machine_model.specs.MockMoves.{carried_by, mock_answered}
-use Rattle.machine_model.specs.ClockMoves.{sleep, now, tick}
+use Rattle.machine_model.specs.ClockMoves.{did_mock, sleep, now, tick}
 use Rattle.machine_model.specs.DutyMoves.{own_duty, duty_struck, duty_answered}
 
 -- what a domain asks from outside for its next move
@@ -58,9 +58,9 @@ own_call script call g l = halts g l
 
 -- ## Moves
 
--- a label that doesn't fit leaves the domain as it was
+-- what comes where something else was asked for leaves the domain as it was
 abbrev pub unmoved : DomainState → Step
-unmoved l = told 0 did.Limit (said.Done value.Unit) l
+unmoved l = told 0 did_mock (said.Done value.Unit) l
 
 abbrev pub own_move : Script → Prepared → Step
 own_move script it = elim it.doing [

@@ -28,8 +28,8 @@ use Rattle.machine_model.specs.Domain.{GoesOn, CallsAgain, OnObject, Asleep, For
 use Rattle.machine_model.specs.Steps.{Step, told, member, counted, does, raises, answers, waits, halts, in_new, unless_off, cancels}
 use Rattle.machine_model.specs.ContextMoves.{sub_of, protected_of, before_block, enters_context, leaves}
 
-abbrev pub with : (switch : ℕ) → Switch → DomainState → DomainState
-with n switch l = record l { switches = with_switch n switch l.switches }
+abbrev pub with_switch_at : (switch : ℕ) → Switch → DomainState → DomainState
+with_switch_at n switch l = record l { switches = with_switch n switch l.switches }
 
 -- a new switch over this context
 abbrev pub opens : (context : ℕ) → DomainState → DomainState
@@ -63,7 +63,7 @@ makes forking n block g l =
     let new = length l.fibers in
     let s : Switch = switch_at l.switches n in
     let t : DomainState = made s.context (OfSwitch n (is_daemon forking)) (forked forking block (fiber_at l.fibers g).variables) l in
-    let u : DomainState = with n (attach new (is_daemon forking) s).switch t in
+    let u : DomainState = with_switch_at n (attach new (is_daemon forking) s).switch t in
     told g (did_fork forking n) (said.Fiber l.number new) (to_head (GoesOn (outcome.Ok value.Unit)) new (to_head (GoesOn (outcome.Ok value.Unit)) g u))
 
 abbrev pub fork : Forking → (switch : ℕ) → Block → (fiber : ℕ) → DomainState → Step
@@ -78,7 +78,7 @@ fork forking n block g l = elim (refuses_forks l.contexts (switch_at l.switches 
 abbrev pub fails : (maker switch : ℕ) → Raised → DomainState → DomainState
 fails maker n what l = elim (switches.fail what (switch_at l.switches n)) [
   | None ↦ l
-  | Some switch ↦ cancels maker switch.context (reason what) (with n switch l)
+  | Some switch ↦ cancels maker switch.context (reason what) (with_switch_at n switch l)
 ]
 
 abbrev pub fail : (switch : ℕ) → TextId → (fiber : ℕ) → DomainState → Step
@@ -112,14 +112,14 @@ abbrev pub detached : (switch : ℕ) → (daemon : Bool) → Outcome → (fiber 
 detached n daemon result g l =
     let t : DomainState = given_up g n daemon result l in
     let left : Detached = detach g (switch_at t.switches n) in
-    woken_if left.woken (with n left.switch t)
+    woken_if left.woken (with_switch_at n left.switch t)
 
 -- ## Release handlers
 
 -- on a switch that has finished the handler runs at once, in a protected context
 abbrev pub release : Ask → (switch : ℕ) → Block → (fiber : ℕ) → DomainState → Step
 release call n block g l = elim (on_release (record { block = number_of block; values = (fiber_at l.fibers g).variables }) (switch_at l.switches n)) [
-  | Some switch ↦ does (did.OnRelease n) g (with n switch l)
+  | Some switch ↦ does (did.OnRelease n) g (with_switch_at n switch l)
   | None ↦ in_new (protected_of l g) g l (λ c m. enters_context (did.OnRelease n) said.Handler c (before_block call c g m) g m)
 ]
 
@@ -151,7 +151,7 @@ abbrev pub closes : Script → Ask → (switch : ℕ) → Option Raised → (kep
 closes script call n came kept g l =
     let t : DomainState = fails_with g n came l in
     let closed : Closed = close_step g (switch_at t.switches n) in
-    closed_by script call n closed.switch.context kept closed.step g (with n closed.switch t)
+    closed_by script call n closed.switch.context kept closed.step g (with_switch_at n closed.switch t)
 
 -- where a handler is next and there is no room for its context, the limit is met before anything else
 abbrev pub close : Script → Ask → (switch : ℕ) → Option Raised → (kept : Value) → (fiber : ℕ) → DomainState → Step
