@@ -17,3 +17,6 @@ pub mod Moves
 pub mod Mock
 pub mod Trace
 pub mod Answers
+pub mod Runs
+pub mod ObjectHistories
+pub mod PartsOfRuns
