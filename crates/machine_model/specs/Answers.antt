@@ -1,11 +1,12 @@
--- What a command answers to its input: the text that it writes, and how it ends. `domains` isn't among these.
+-- What a command answers to its input: the text that it writes, and how it ends. Of `domains` only a refusal is said here: what it writes of a script that it runs isn't
+-- fixed, but one of its legal histories.
 use Rattle.std.specs.Prelude.{ℕ, ◌==◌, true, false, List, [], ◌++◌, length, codes, count_by, Option, Some, None, Result, Ok, Err}
 use Rattle.std.specs.Fmt.{decimal}
 use Rattle.script_model.specs.declared.Command.{Command}
 use Rattle.script_model.specs.declared.Command.TheVariants as command
 use Rattle.script_model.specs.Features.{Built}
 use Rattle.script_model.specs.Generator.{generated}
-use Rattle.script_model.specs.Inputs.{Checked, mocked_script, checked, printed}
+use Rattle.script_model.specs.Inputs.{Checked, mocked_script, shared_script, checked, printed}
 use Rattle.script_model.specs.Limits.{most_steps}
 use Rattle.script_model.specs.Refusals.{Refusal, refusal_line}
 use Rattle.script_model.specs.Scripts.{Script, script_of}
@@ -77,6 +78,16 @@ loaded forks = elim (script_of (generated forks)) [
   | Err fault ↦ record { text = []; ending = ending.Refused }
 ]
 
+-- ## `domains`
+
+abbrev pub refused_if : Result Script Refusal → Option Answer
+refused_if (Ok script) = None
+refused_if (Err refusal) = Some (refused_by refusal)
+
+-- the answer to an input that it refuses
+unfoldable pub shared_refusal : Built → (bytes : List ℕ) → Option Answer
+shared_refusal built bytes = refused_if (shared_script built bytes)
+
 -- ## Commands
 
 abbrev pub checked_as : Checked → Answer
@@ -84,11 +95,11 @@ checked_as it = record { text = it.text; ending = elim it.is_refused [ true ↦ 
 
 abbrev pub answer_for : Built → Command → (bytes : List ℕ) → Option Answer
 answer_for built (command.Mock steps) bytes = Some (mocked built steps bytes)
-answer_for built (command.Domains lines) bytes = None
+answer_for built (command.Domains lines) bytes = shared_refusal built bytes
 answer_for built command.Check bytes = Some (checked_as (checked bytes))
 answer_for built command.Print bytes = Some (checked_as (printed bytes))
 answer_for built (command.Load forks) bytes = Some (loaded forks)
 
--- the answer to words and an input, where the words have a meaning and don't ask for `domains`
+-- the answer to words and an input, where the words have a meaning, and `domains` refuses what it is asked to run
 unfoldable pub answered : Built → (words : List (List ℕ)) → (bytes : List ℕ) → Option Answer
 answered built words bytes = elim (meaning built words) [ None ↦ None | Some it ↦ answer_for built it bytes ]

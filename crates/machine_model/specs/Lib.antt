@@ -20,3 +20,5 @@ pub mod Answers
 pub mod Runs
 pub mod ObjectHistories
 pub mod PartsOfRuns
+pub mod Histories
+pub mod Verdicts
