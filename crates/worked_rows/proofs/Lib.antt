@@ -17,3 +17,4 @@ mod RefusedForms
 mod ChecksAndPrints
 mod OpeningTexts
 mod ReadScripts
+mod Histories
