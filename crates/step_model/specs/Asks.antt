@@ -8,7 +8,7 @@ use Rattle.eio_value.specs.declared.raised.Outcome.TheVariants as outcome
 use Rattle.eio_value.specs.declared.raised.Raised.{Raised}
 use Rattle.script_model.specs.Syntax.{Block, Forking, Group, ObjectCall, ObjectCallWith, ReaderCall, PathCall}
 
--- a directory: a declared one by its number in order of declaration, or an opened one by its number in order of opening
+-- a directory: a declared one by its number in order of declaration, or an opened one by the number that its opening answered
 pub data Place : Type 0 where
   Declared : (number : ℕ) → Place
   Opened : (number : ℕ) → Place
