@@ -63,3 +63,7 @@ a_wait_in_a_context_that_is_off = refl
 a_call_that_need_not_wait : mocks "(eio 1 (stream q 1) (main (sub c (cancel c \"x\") (add q 1) (let x (take q)) (trace x))))" ≡ ok "+1\n"
 unfolding mocks
 a_call_that_need_not_wait = refl
+
+a_close_is_not_cancelled : mocks "(eio 1 (main (sub c (both ((switch t (fork t (protect (yield) (yield) (trace \"t\")))) (trace \"after\")) ((cancel c \"x\") (trace \"m\"))))))" ≡ ok "+m\n+t\n+after\n"
+unfolding mocks
+a_close_is_not_cancelled = refl

@@ -54,3 +54,7 @@ a_sleep_of_a_text = refl
 the_clock_stands_while_a_fiber_is_ready : mocks "(eio 1 (main (both ((sleep 1) (trace \"a\")) ((repeat i 4 (yield)) (trace \"b\")))))" ≡ ok "+b\n+mock time is now 1\n+a\n"
 unfolding mocks
 the_clock_stands_while_a_fiber_is_ready = refl
+
+a_sleep_past_it_in_a_context_that_is_off : mocks "(eio 1 (main (sub c (sleep 1) (cancel c \"x\") (sleep 9223372036854775807))))" ≡ raised "+mock time is now 1\n!Invalid_argument \"Overflow\"\n"
+unfolding mocks
+a_sleep_past_it_in_a_context_that_is_off = refl

@@ -66,3 +66,23 @@ a_put_of_a_number = refl
 a_writer_in_a_context_that_is_off : mocks "(eio 1 (flow f) (main (sub c (cancel c \"x\") (buf-write w f (put w \"a\")) (trace \"e\"))))" ≡ ok "+f: wrote \"a\"\n+e\n"
 unfolding mocks
 a_writer_in_a_context_that_is_off = refl
+
+a_copy_in_a_context_that_is_off : mocks "(eio 1 (flow f (data \"a\") (pause) (data \"b\")) (flow g) (main (sub c (cancel c \"x\") (copy f g) (trace \"e\"))))" ≡ ok "+f: read \"a\"\n+g: wrote \"a\"\n+f: read \"b\"\n+g: wrote \"b\"\n+e\n"
+unfolding mocks
+a_copy_in_a_context_that_is_off = refl
+
+a_pause_in_a_context_that_is_off : mocks "(eio 1 (flow f (pause) (data \"a\")) (main (sub c (cancel c \"x\") (buf-read b f 4 (let x (take-all b)) (trace x)))))" ≡ ok "+f: read \"a\"\n+a\n"
+unfolding mocks
+a_pause_in_a_context_that_is_off = refl
+
+a_read_that_goes_on_behind_a_shut : mocks "(eio 1 (flow f (pause) (data \"a\")) (main (switch s (buf-read b f 8 (fork s (try ((take-all b)) e ((trace e))))))))" ≡ ok "+Invalid_argument \"Closed\"\n"
+unfolding mocks
+a_read_that_goes_on_behind_a_shut = refl
+
+a_put_while_a_shut_waits : mocks "(eio 1 (flow f) (main (switch s (buf-write w f (fork s (yield) (try ((put w \"b\")) e ((trace e)))) (put w \"a\")))))" ≡ ok "+Invalid_argument \"Closed\"\n+f: wrote \"a\"\n"
+unfolding mocks
+a_put_while_a_shut_waits = refl
+
+two_readers_of_a_flow : mocks "(eio 1 (flow f (data \"ab\") (data \"cd\")) (main (buf-read a f 8 (let x (char a)) (buf-read b f 8 (let y (take-all b)) (trace x y)) (let z (take-all a)) (trace z))))" ≡ ok "+f: read \"ab\"\n+f: read \"cd\"\n+acd\n+b\n"
+unfolding mocks
+two_readers_of_a_flow = refl

@@ -60,3 +60,7 @@ a_daemon_raises = refl
 daemons_go_after_forks : mocks "(eio 1 (main (switch s (fork-daemon s (try ((await-cancel)) x ((trace \"d\")))) (fork s (yield) (yield) (trace \"f\")) (trace \"m\"))))" ≡ ok "+m\n+f\n+d\n"
 unfolding mocks
 daemons_go_after_forks = refl
+
+a_fork_while_its_switch_waits : mocks "(eio 1 (main (switch s (fork s (yield) (fork s (trace \"in\")) (trace \"f\")) (trace \"m\"))))" ≡ ok "+m\n+in\n+f\n"
+unfolding mocks
+a_fork_while_its_switch_waits = refl

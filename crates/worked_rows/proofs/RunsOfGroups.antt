@@ -63,3 +63,19 @@ branches_stand_in_order = refl
 a_group_in_a_context_that_is_off : mocks "(eio 1 (main (sub c (cancel c \"x\") (both ((trace \"n\")) ((trace \"n\"))))))" ≡ raised "!Cancelled: Failure \"x\"\n"
 unfolding mocks
 a_group_in_a_context_that_is_off = refl
+
+any_with_an_error : mocks "(eio 1 (main (any ((raise \"a\")) ((give 1)))))" ≡ raised "!Failure \"a\"\n"
+unfolding mocks
+any_with_an_error = refl
+
+any_of_three : mocks "(eio 1 (main (let v (any ((await-cancel)) ((yield) (give 2)) ((yield) (yield) (give 3)))) (trace v)))" ≡ ok "+2\n"
+unfolding mocks
+any_of_three = refl
+
+errors_of_a_group_in_another : mocks "(eio 1 (main (all ((all ((raise \"1\")) ((raise \"2\")))) ((raise \"3\")))))" ≡ raised "!Multiple [Failure \"1\"; Failure \"2\"; Failure \"3\"]\n"
+unfolding mocks
+errors_of_a_group_in_another = refl
+
+the_first_of_several_is_the_reason : mocks "(eio 1 (main (both ((try ((await-cancel)) x ((trace x)))) ((all ((raise \"1\")) ((raise \"2\")))))))" ≡ raised "+Cancelled: Failure \"1\"\n!Multiple [Failure \"1\"; Failure \"2\"]\n"
+unfolding mocks
+the_first_of_several_is_the_reason = refl

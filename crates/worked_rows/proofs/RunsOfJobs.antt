@@ -1,6 +1,6 @@
 -- Executors and their jobs.
 use Rattle.std.proofs.Common.{◌≡◌, refl}
-use Rattle.worked_rows.specs.Run.{mocks, ok}
+use Rattle.worked_rows.specs.Run.{mocks, ok, deadlock}
 
 a_job_with_a_variable : mocks "(eio 1 (executor e 0 0) (main (let x 5) (let y (submit e 60 (x) (give (plus x 2)))) (trace y)))" ≡ ok "+7\n"
 unfolding mocks
@@ -36,3 +36,15 @@ a_submit_in_a_context_that_is_off = refl
 jobs_in_order : mocks "(eio 1 (executor e 0) (main (all ((submit e 100 () (yield) (trace \"a\"))) ((submit e 100 () (yield) (trace \"b\"))) ((submit e 10 () (trace \"c\"))))))" ≡ ok "+a\n+b\n+c\n"
 unfolding mocks
 jobs_in_order = refl
+
+a_job_that_raises_for_nobody : mocks "(eio 1 (executor e 0) (main (first ((submit e 50 () (yield) (yield) (raise \"j\"))) ()) (trace \"m\")))" ≡ ok "+m\n"
+unfolding mocks
+a_job_that_raises_for_nobody = refl
+
+a_job_in_a_job : mocks "(eio 1 (executor e 0) (main (let z (submit e 50 () (let y (submit e 50 () (give 1))) (give (plus y 1)))) (trace z)))" ≡ ok "+2\n"
+unfolding mocks
+a_job_in_a_job = refl
+
+a_job_in_a_job_that_does_not_fit : mocks "(eio 1 (executor e 0) (main (submit e 60 () (submit e 60 () (trace \"n\")))))" ≡ deadlock "!Deadlock_detected\n"
+unfolding mocks
+a_job_in_a_job_that_does_not_fit = refl

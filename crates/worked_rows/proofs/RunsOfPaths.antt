@@ -34,3 +34,11 @@ a_path_that_is_no_text = refl
 a_saved_file : mocks "(eio 1 (dir c) (main (save c \"n\" \"one\") (save c \"n\" \"two\") (let t (load c \"./n\")) (trace t)))" ≡ ok "+two\n"
 unfolding mocks
 a_saved_file = refl
+
+a_link_that_leads_nowhere : mocks "(eio 1 (dir c (link \"l\" \"n\")) (main (try ((load c \"l\")) x ((trace x))) (save c \"l\" \"x\") (let t (load c \"n\")) (let n (read-dir c \"\")) (trace t \" \" n)))" ≡ ok "+Not_found \"l\"\n+x l n\n"
+unfolding mocks
+a_link_that_leads_nowhere = refl
+
+the_directory_itself : mocks "(eio 1 (dir c (sub \"d\")) (main (try ((mkdir c \"\")) x ((trace x))) (try ((unlink c \".\")) x ((trace x))) (try ((rmdir c \"d/..\")) x ((trace x))) (try ((open-dir c \"/\" k)) x ((trace x))) (let k (kind c \"d/.\")) (trace k)))" ≡ ok "+Already_exists \"\"\n+Is_directory \".\"\n+Permission_denied \"d/..\"\n+Permission_denied \"/\"\n+dir\n"
+unfolding mocks
+the_directory_itself = refl

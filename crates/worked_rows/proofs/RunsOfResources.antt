@@ -50,3 +50,7 @@ a_cancelled_acquire_takes_nothing = refl
 a_cancelled_lock_takes_nothing : mocks "(eio 1 (mutex m) (main (lock m) (first ((lock m)) ()) (unlock m) (let a (try-lock m)) (trace a)))" ≡ ok "+1\n"
 unfolding mocks
 a_cancelled_lock_takes_nothing = refl
+
+a_cancelled_use_uses_nothing : mocks "(eio 1 (pool r 1) (main (use-pool r x (first ((use-pool r y (trace \"n\"))) ()) (trace x)) (use-pool r z (trace z))))" ≡ ok "+0\n+0\n"
+unfolding mocks
+a_cancelled_use_uses_nothing = refl

@@ -49,3 +49,11 @@ each_turn_is_a_move = refl
 a_handled_raise_is_silent : mocks_in 2 "(eio 1 (main (let x (try ((try ((raise \"a\")) e ((raise \"b\")))) e ((give e)))) (trace x)))" ≡ ok "+Failure \"b\"\n"
 unfolding mocks_in
 a_handled_raise_is_silent = refl
+
+bytes_that_were_read_are_a_text : mocks "(eio 1 (flow f (data \"ab\") (data \"c\")) (main (buf-read b f 8 (let x (take-all b)) (trace (same x \"abc\")))))" ≡ ok "+f: read \"ab\"\n+f: read \"c\"\n+1\n"
+unfolding mocks
+bytes_that_were_read_are_a_text = refl
+
+a_bound_exception_is_a_text : mocks "(eio 1 (dir c) (main (try ((raise \"x\")) e ((trace (same e \"Failure \\\"x\\\"\")) (save c \"f\" e))) (let t (load c \"f\")) (trace t)))" ≡ ok "+1\n+Failure \"x\"\n"
+unfolding mocks
+a_bound_exception_is_a_text = refl

@@ -56,6 +56,15 @@ lists_alone : mocks_bytes (replicate 64 40 ++ replicate 64 41) ≡ refused "!Ref
 unfolding mocks_bytes answer
 lists_alone = refl
 
+-- the size is asked first
+blanks_too_many : mocks_bytes (replicate 262145 32) ≡ refused "!Refused Size at 262144\n"
+unfolding mocks_bytes answer
+blanks_too_many = refl
+
+many_blanks_too_many : mocks_bytes (replicate 300000 32) ≡ refused "!Refused Size at 262144\n"
+unfolding mocks_bytes answer
+many_blanks_too_many = refl
+
 -- ## Not refused
 
 a_gap_before_the_head : mocks "( eio 1 (main))" ≡ ok ""
