@@ -56,6 +56,10 @@ lists_alone : mocks_bytes (replicate 64 40 ++ replicate 64 41) ≡ refused "!Ref
 unfolding mocks_bytes answer
 lists_alone = refl
 
+as_many_blanks_as_may_be : mocks_bytes (replicate 262144 32) ≡ refused "!Refused Unclosed at 262144\n"
+unfolding mocks_bytes answer
+as_many_blanks_as_may_be = refl
+
 -- the size is asked first
 blanks_too_many : mocks_bytes (replicate 262145 32) ≡ refused "!Refused Size at 262144\n"
 unfolding mocks_bytes answer
