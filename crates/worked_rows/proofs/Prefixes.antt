@@ -1,11 +1,13 @@
 -- Every prefix of a script but the whole is Unclosed: at the text that is open, else at the last list that is open.
 use Rattle.std.proofs.Common.{◌≡◌, List, ◌++◌, Result, Err, Option, Some, None, refl}
-use Rattle.std.specs.Prelude.{ℕ, codes, take, length, map, replicate}
+use Rattle.std.specs.Prelude.{ℕ, [], ◌∷◌, codes, decimal, take, length, map, replicate}
+use Rattle.std.specs.Fmt.{digits}
 use Rattle.std.specs.List.{range_with_len}
 use Rattle.script_model.specs.Trees.{Tree}
 use Rattle.script_model.specs.Faults as fault
 use Rattle.script_model.specs.Faults.{TreeFault}
 use Rattle.worked_rows.specs.Read.{tree}
+use Rattle.worked_rows.specs.Run.{Told, answer}
 
 script : List ℕ
 script = codes "(eio 1 (main (switch s (fork s (trace \"x\") (yield) (trace \"z\")) (trace \"y\"))))"
@@ -23,6 +25,20 @@ the_script_is_whole : length script ≡ 78
 unfolding script
 the_script_is_whole = refl
 
-every_prefix_is_unclosed : map prefix_unclosed_at (range_with_len 0 78) ≡ replicate 8 (Some 0) ++ replicate 6 (Some 7) ++ replicate 10 (Some 13) ++ replicate 8 (Some 23) ++ replicate 7 (Some 31) ++ replicate 2 (Some 38) ++ replicate 1 (Some 31) ++ replicate 2 (Some 23) ++ replicate 6 (Some 43) ++ replicate 2 (Some 23) ++ replicate 7 (Some 51) ++ replicate 2 (Some 58) ++ replicate 1 (Some 51) ++ replicate 1 (Some 23) ++ replicate 2 (Some 13) ++ replicate 7 (Some 64) ++ replicate 2 (Some 71) ++ replicate 1 (Some 64) ++ replicate 1 (Some 13) ++ replicate 1 (Some 7) ++ replicate 1 (Some 0)
-unfolding prefix_unclosed_at unclosed_at script tree
+places : List ℕ
+places = replicate 8 0 ++ replicate 6 7 ++ replicate 10 13 ++ replicate 8 23 ++ replicate 7 31 ++ replicate 2 38 ++ replicate 1 31 ++ replicate 2 23 ++ replicate 6 43 ++ replicate 2 23 ++ replicate 7 51 ++ replicate 2 58 ++ replicate 1 51 ++ replicate 1 23 ++ replicate 2 13 ++ replicate 7 64 ++ replicate 2 71 ++ replicate 1 64 ++ replicate 1 13 ++ replicate 1 7 ++ replicate 1 0
+
+every_prefix_is_unclosed : map prefix_unclosed_at (range_with_len 0 78) ≡ map Some places
+unfolding prefix_unclosed_at unclosed_at script places tree
 every_prefix_is_unclosed = refl
+
+-- what `mock` makes of the first n bytes
+prefix_mocked : ℕ → Told
+prefix_mocked n = answer (codes "mock" ∷ []) (take n script)
+
+refused_at : ℕ → Told
+refused_at at = record { text = codes "!Refused Unclosed at " ++ decimal at ++ codes "\n"; status = 2 }
+
+every_prefix_is_refused : map prefix_mocked (range_with_len 0 78) ≡ map refused_at places
+unfolding prefix_mocked refused_at script places answer digits
+every_prefix_is_refused = refl
