@@ -1,4 +1,5 @@
 pub mod Growing
 pub mod Numbers
 pub mod Pieces
+pub mod TreeCode
 pub mod Views
