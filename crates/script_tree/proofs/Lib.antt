@@ -1,7 +1,9 @@
+pub mod Fronts
 pub mod Gaps
 pub mod Lists
 pub mod Numbers
 pub mod Runs
+pub mod Spelled
 pub mod Texts
 pub mod Trees
 pub mod Wholes

@@ -1,15 +1,16 @@
 -- The whole input: a gap, a tree, and nothing but gap behind it.
-use Rattle.std.proofs.Common.{◌≡◌, ℕ, ◌<◌, ◌≤◌, List, [], ◌∷◌, ◌++◌, length, drop, false, Result, Ok, Err, refl, arith, ap, sym, subst, ◌∙◌, append_assoc, append-nil}
+use Rattle.std.proofs.Common.{◌≡◌, ℕ, ◌<◌, ◌≤◌, List, [], ◌∷◌, length, drop, false, Result, Ok, Err, arith, ap, sym, subst, ◌∙◌}
 use Rattle.std.proofs.lemmas.Grind.{common_steps}
 use Rattle.std.proofs.lemmas.Bool.{false≢true}
 use Rattle.std.specs.Prelude.{IfErr}
 use Rattle.script_model.specs.Faults as model
 use Rattle.script_model.specs.Faults.{TreeFault}
 use Rattle.script_model.specs.Results.{◌>>=◌}
-use Rattle.script_model.specs.Trees.{Tree, Word, Number, Text, Branch, Trees, Nil, And}
+use Rattle.script_model.specs.Trees.{Tree}
 use Rattle.script_model.specs.Reading.{Here, here, Found, past_gap, tree_at, alone, reading}
 use Rattle.script_tree.specs.declared.fault.TreeFault as code
-use Rattle.script_tree.specs.Pieces.{Piece, Closes, pieces, row_pieces, first, others, rows, first_tree, tree_of}
+use Rattle.script_tree.specs.Pieces.{IsWhole, Piece, pieces, tree_of}
+use Rattle.script_tree.specs.TreeCode.{tree_of-pieces}
 use Rattle.script_tree.specs.Views.{from, Fails}
 use Rattle.script_tree.specs.Growing.{Grown, grown, grows}
 use Rattle.script_tree.proofs.Gaps.{split_at}
@@ -17,28 +18,6 @@ use Rattle.script_tree.proofs.Lists.{fails_on, so_far_of, next_of, is_ok}
 
 abbrev Read : Type 0
 Read = Result Found TreeFault
-
-mutual
-  unfolding pieces row_pieces
-
-  rows_of_tree : (tree : Tree) (behind : List Piece) → rows (pieces tree ++ behind) ≡ And tree (first (rows behind)) ∷ others (rows behind)
-  rows_of_tree (Word at word) behind = refl
-  rows_of_tree (Number at z) behind = refl
-  rows_of_tree (Text at text) behind = refl
-  rows_of_tree (Branch at row) behind =
-      ap (λ ps. And (Branch at (first (rows ps))) (first (others (rows ps))) ∷ others (others (rows ps))) (append_assoc (row_pieces row) (Closes ∷ []) behind)
-      ∙ ap (λ (rs : List Trees). And (Branch at (first rs)) (first (others rs)) ∷ others (others rs)) (rows_of_row row behind)
-
-  rows_of_row : (row : Trees) (behind : List Piece) → rows (row_pieces row ++ Closes ∷ behind) ≡ row ∷ rows behind
-  rows_of_row Nil behind = refl
-  rows_of_row (And tree rest) behind =
-      ap rows (append_assoc (pieces tree) (row_pieces rest) (Closes ∷ behind))
-      ∙ (rows_of_tree tree (row_pieces rest ++ Closes ∷ behind) ∙ ap (λ (rs : List Trees). And tree (first rs) ∷ others rs) (rows_of_row rest behind))
-
--- a tree is the one that its pieces spell
-pub tree_of-pieces : (tree : Tree) → tree_of (pieces tree) ≡ tree
-unfolding tree_of
-tree_of-pieces tree = ap tree_of (sym (append-nil (pieces tree))) ∙ ap (λ (rs : List Trees). first_tree (first rs)) (rows_of_tree tree [])
 
 abbrev by_place : Tree → Here → Result Tree TreeFault
 by_place tree behind = elim behind.bytes [ [] ↦ Ok tree | b ∷ bytes ↦ Err (model.Stray behind.at) ]
@@ -48,14 +27,14 @@ alone_by bytes next end new (Ok x) e gap =
     ap (λ (h : Here). by_place x.tree (past_gap false h.at h.bytes)) (ap next_of e) ∙ (ap (by_place x.tree) gap ∙ ap (λ t. by_place t (from bytes end)) (sym (tree_of-pieces x.tree) ∙ ap tree_of (ap so_far_of e)))
 alone_by bytes next end new (Err f) e gap = absurd (false≢true (ap is_ok e))
 
-pieces_by : (bytes : List ℕ) (next : ℕ) (new : List Piece) (r : Read) → grows [] r ≡ Ok (grown bytes new next) → new ≡ pieces (tree_of new)
+pieces_by : (bytes : List ℕ) (next : ℕ) (new : List Piece) (r : Read) → grows [] r ≡ Ok (grown bytes new next) → IsWhole new
 pieces_by bytes next new (Ok x) e =
     let same : pieces x.tree ≡ new = ap so_far_of e in
     sym same ∙ ap pieces (sym (tree_of-pieces x.tree) ∙ ap tree_of same)
 pieces_by bytes next new (Err f) e = absurd (false≢true (ap is_ok e))
 
 -- what was read is a whole tree's pieces and no more
-pub whole_pieces : (bytes : List ℕ) (begin next : ℕ) (new : List Piece) → grows [] (tree_at 64 (from bytes begin)) ≡ Ok (grown bytes new next) → new ≡ pieces (tree_of new)
+pub whole_pieces : (bytes : List ℕ) (begin next : ℕ) (new : List Piece) → grows [] (tree_at 64 (from bytes begin)) ≡ Ok (grown bytes new next) → IsWhole new
 whole_pieces bytes begin next new e = pieces_by bytes next new (tree_at 64 (from bytes begin)) e
 
 begun : (bytes : List ℕ) (begin : ℕ) → past_gap false 0 (drop 0 bytes) ≡ from bytes begin → reading bytes ≡ (tree_at 64 (from bytes begin) >>= alone)

@@ -1,5 +1,5 @@
 -- A tree as the row of its pieces in reading order.
-use Rattle.std.specs.Prelude.{ℕ, ℤ, List, [], ◌∷◌, ◌++◌}
+use Rattle.std.specs.Prelude.{◌≡◌, ℕ, ℤ, List, [], ◌∷◌, ◌++◌}
 use Rattle.script_model.specs.Trees.{Tree, Word, Number, Text, Branch, Trees, Nil, And}
 use Rattle.script_tree.specs.declared.tree.Node.{Node}
 use Rattle.script_tree.specs.declared.tree.Node.TheVariants as node
@@ -72,3 +72,7 @@ first_tree (And tree rest) = tree
 -- the tree that pieces spell
 unfoldable pub tree_of : List Piece → Tree
 tree_of spelled = first_tree (first (rows spelled))
+
+-- pieces are those of one tree, and no more
+abbrev pub IsWhole : List Piece → Type 0
+IsWhole spelled = spelled ≡ pieces (tree_of spelled)

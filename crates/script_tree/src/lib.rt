@@ -1,4 +1,5 @@
-//! The reader of trees: bytes in the notation become a tree of words, numbers, texts and lists, each with its place.
+//! Trees of the notation: bytes become a tree of words, numbers, texts and lists, each with its place, and a tree becomes the
+//! bytes of its canonical spelling.
 #![tactic(auto)]
 
 mod fault;
@@ -7,10 +8,12 @@ mod reader;
 mod run;
 mod text;
 mod tree;
+mod write;
 
 pub use fault::TreeFault;
 pub use reader::read_tree;
 pub use tree::{Node, Tree};
+pub use write::write_tree;
 
 #[cfg(test)]
 mod tests;

@@ -1,10 +1,11 @@
-//! Small inputs: the pieces of their trees, or their faults, each with its place.
+//! Small inputs: the pieces of their trees, or their faults, each with its place; and their canonical spellings.
 
-ghost use Rattle.std.specs.Prelude.{◌≤◌, length};
-
-use super::{Node, read_tree};
+use super::{Node, Tree, read_tree, write_tree};
 use std::alloc::{AllocError, Global};
 use std::test::Fail;
+
+/// The most bytes that may be read.
+const MOST_INPUT: usize = 262_144;
 
 /// A piece, with its place; a word and a text by their length.
 fn shown_node(alloc: Global, node: &Node) -> Result<String, AllocError> {
@@ -17,24 +18,57 @@ fn shown_node(alloc: Global, node: &Node) -> Result<String, AllocError> {
     }
 }
 
-/// What an input gives.
-fn shown(alloc: Global, input: &[u8]) -> Result<String, AllocError>
-    requires { length input.now ≤ 262144 }
-{
+/// The pieces of a tree.
+fn shown_tree(alloc: Global, tree: &Tree) -> Result<String, AllocError> {
+    let mut pieces = String::from_str(alloc, "tree")?;
+    for node in tree.nodes() {
+        pieces.push_str(&shown_node(alloc, node)?)?;
+    }
+    Ok(pieces)
+}
+
+/// What an input gives; of one that is too long to be read, just that.
+fn shown(alloc: Global, input: &[u8]) -> Result<String, AllocError> {
+    if MOST_INPUT < input.len() {
+        return String::from_str(alloc, "longer than may be read");
+    }
     match read_tree(alloc, input) {
         Err(fault) => format!(in alloc; "{fault:?}"),
+        Ok(tree) => shown_tree(alloc, &tree),
+    }
+}
+
+/// The canonical spelling of what an input gives, or its fault.
+fn printed(alloc: Global, input: &[u8]) -> Result<String, Fail> {
+    if MOST_INPUT < input.len() {
+        return Ok(String::from_str(alloc, "longer than may be read")?);
+    }
+    match read_tree(alloc, input) {
+        Err(fault) => Ok(format!(in alloc; "{fault:?}")?),
         Ok(tree) => {
-            let mut pieces = String::from_str(alloc, "tree")?;
-            for node in tree.nodes() {
-                pieces.push_str(&shown_node(alloc, node)?)?;
-            }
-            Ok(pieces)
+            let mut spelling = Vec::new(alloc);
+            write_tree(&tree, &mut spelling)?;
+            Ok(String::from_utf8(spelling)?)
         }
     }
 }
 
+/// So many parens that open, and behind them so many that close.
+fn parens(alloc: Global, opening: u8, closing: u8) -> Result<String, AllocError> {
+    let mut row = String::new(alloc);
+    for _ in 0..opening {
+        row.push('(')?;
+    }
+    for _ in 0..closing {
+        row.push(')')?;
+    }
+    Ok(row)
+}
+
 #[test]
 fn reads_small_inputs(rt: HostRuntime) -> Result<(), Fail> {
+    let script =
+        "(eio 1 (main (switch s (fork s (trace \"x\") (yield) (trace \"z\")) (trace \"y\"))))";
     for (input, want) in [
         ("word", "tree word 0 of 4"),
         (" -12 ; note", "tree number 1 -12"),
@@ -55,14 +89,51 @@ fn reads_small_inputs(rt: HostRuntime) -> Result<(), Fail> {
         ("(A)", "Byte(1)"),
         ("\"\\q\"", "Byte(2)"),
         ("abcdefghijklmnopqrstuvwxyz0123456", "LongText(0)"),
+        ("(eio 1 (main (switch s (fork", "Unclosed(23)"),
+        ("(eio 1 (main (switch s (for", "Unclosed(23)"),
+        ("(eio 1 (main (switch s ", "Unclosed(13)"),
     ] {
-        if input.len() <= 262_144 {
-            assert_eq!(rt;
-                shown(rt.alloc(), input.as_bytes())?.as_str(),
-                want,
-                "{input}"
-            );
-        }
+        assert_eq!(rt;
+            shown(rt.alloc(), input.as_bytes())?.as_str(),
+            want,
+            "{input}"
+        );
+    }
+    Ok(())
+}
+
+#[test]
+fn opens_64_lists(rt: HostRuntime) -> Result<(), Fail> {
+    for (opening, closing, want) in [
+        (64, 0, "Unclosed(63)"),
+        (65, 0, "Deep(64)"),
+        (65, 65, "Deep(64)"),
+    ] {
+        let input = parens(rt.alloc(), opening, closing)?;
+        assert_eq!(rt; shown(rt.alloc(), input.as_bytes())?.as_str(), want);
+    }
+    let mut whole = parens(rt.alloc(), 64, 64)?;
+    let spelling = printed(rt.alloc(), whole.as_bytes())?;
+    whole.push('\n')?;
+    assert_eq!(rt; spelling, whole);
+    Ok(())
+}
+
+#[test]
+fn prints_in_canonical_spelling(rt: HostRuntime) -> Result<(), Fail> {
+    for (input, want) in [
+        (
+            "( eio 1;c\n (main(trace \"a\\tb\" -5 )))",
+            "(eio 1 (main (trace \"a\\tb\" -5)))\n",
+        ),
+        (" () ; note", "()\n"),
+        ("(\"\\r\\\"\"a)", "(\"\\r\\\"\" a)\n"),
+    ] {
+        assert_eq!(rt;
+            printed(rt.alloc(), input.as_bytes())?.as_str(),
+            want,
+            "{input}"
+        );
     }
     Ok(())
 }

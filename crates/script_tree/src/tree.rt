@@ -1,5 +1,6 @@
 //! A tree as the row of its pieces in reading order. A list is the piece where it opens, the pieces of its trees, and the
-//! piece where it closes.
+//! piece where it closes. Contracts see a [`Tree`] as the definition's tree itself: that its pieces spell one tree and no
+//! more is its invariant, which [`Draft::into_tree`] asks for once.
 
 ghost use Rattle.std.specs.Prelude.{◌≡◌, [], ◌∷◌, ◌++◌, OnOk};
 
@@ -16,39 +17,65 @@ pub enum Node {
     Close,
 }
 
-/// A tree, as its pieces in reading order.
+/// A tree of words, numbers, texts and lists, each with its place.
 #[derive(Drop)]
 pub struct Tree {
     nodes: Vec<Node>,
 }
 
 impl Model for Tree {
+    ghost use Rattle.std.specs.Prelude.{map};
+    ghost use Rattle.script_model.specs.Trees as model;
+    ghost use Rattle.script_tree.specs.Pieces.{IsWhole, piece_of, tree_of};
+    ghost use Rattle.script_tree.specs.TreeCode.{tree_code};
+
+    ghost Value = { model.Tree };
+
+    ghost coded = { tree_code };
+
+    ghost view = { λ tree. tree_of (map piece_of tree.nodes.items) };
+
+    ghost invariant = { λ tree. IsWhole (map piece_of tree.nodes.items) };
+}
+
+impl Tree {
+    ghost use Rattle.std.specs.Prelude.{◌≡◌, map};
+    ghost use Rattle.script_tree.specs.Pieces.{piece_of, pieces};
+
+    /// Its pieces, in reading order.
+    pub fn nodes(&self) -> &[Node]
+        ensures { map piece_of result.now ≡ pieces self.now }
+    {
+        &self.nodes
+    }
+}
+
+/// The pieces of a tree that is still being read.
+#[derive(Drop)]
+pub(crate) struct Draft {
+    nodes: Vec<Node>,
+}
+
+impl Model for Draft {
     ghost use Rattle.std.specs.Prelude.{List, map};
     ghost use Rattle.script_tree.specs.Pieces.{Piece, piece_of};
 
     ghost Value = { List Piece };
 
-    ghost view = { λ tree. map piece_of tree.nodes.items };
+    ghost view = { λ draft. map piece_of draft.nodes.items };
 }
 
-impl Tree {
-    ghost use Rattle.std.specs.Prelude.{◌≡◌, [], ◌∷◌, ◌++◌, map, OnOk};
-    ghost use Rattle.script_tree.specs.Pieces.{piece_of};
+impl Draft {
+    ghost use Rattle.std.specs.Prelude.{◌≡◌, [], ◌∷◌, ◌++◌, OnOk};
+    ghost use Rattle.script_tree.specs.Pieces.{IsWhole, piece_of, tree_of};
 
     /// No pieces yet.
-    pub(crate) fn new(alloc: Global) -> Tree
+    pub(crate) fn new(alloc: Global) -> Draft
         ensures { result ≡ [] }
     {
-        Tree {
+        Draft {
             nodes: Vec::new(alloc),
         }
-    }
-
-    /// Its pieces, in reading order.
-    pub fn nodes(&self) -> &[Node]
-        ensures { map piece_of result.now ≡ self.now }
-    {
-        &self.nodes
     }
 
     /// One more piece, behind the others.
@@ -57,5 +84,14 @@ impl Tree {
     {
         self.nodes.push(node)?;
         Ok(())
+    }
+
+    /// The tree that the pieces spell, once they are whole.
+    pub(crate) fn into_tree(self) -> Tree
+        requires { IsWhole self }
+        ensures { result ≡ tree_of self }
+    {
+        let Draft { nodes } = self;
+        Tree { nodes }
     }
 }

@@ -1,5 +1,5 @@
 -- A text is read as it is spelled, item by item (`text_sound`, `text_back`).
-use Rattle.std.proofs.Common.{◌≡◌, ◌≤◌, ◌<◌, ℕ, ◌+◌, ◌⊎◌, inl, inr, Bool, true, false, cond, ◌||◌, ◌==◌, nat_lt, List, [], ◌∷◌, ◌++◌, length, Option, Some, None, Result, Ok, Err, refl, sym, ap, ◌∙◌, subst, append_assoc, length-append, arith}
+use Rattle.std.proofs.Common.{◌≡◌, ◌≤◌, ◌<◌, ℕ, ◌+◌, ◌⊎◌, inl, inr, Bool, true, false, cond, ◌||◌, ◌==◌, nat_lt, List, [], ◌∷◌, ◌++◌, length, Option, Some, None, Result, Ok, refl, sym, ap, ◌∙◌, subst, append_assoc, length-append, arith}
 use Rattle.std.specs.List.{list_all, flat_map}
 use Rattle.std.proofs.lemmas.Bool.{and_parts, and_from, eqb-true, ltb-true, lt-ltb, or_cases}
 use Rattle.std.proofs.lemmas.Bool.Decides.{nat_tests}
@@ -8,9 +8,7 @@ use Rattle.script_model.specs.declared.TextByte.{TextByte}
 use Rattle.script_model.specs.declared.TextByte.TheVariants.{Item, Backslash, Quote, Unsound}
 use Rattle.script_model.specs.Results.{◌>>=◌}
 use Rattle.script_model.specs.Bytes.{tab, line_feed, carriage_return, quote, backslash, letter_n, letter_r, letter_t, is_plain, has_escape}
-use Rattle.script_model.specs.Limits.{most_text_items}
 use Rattle.script_model.specs.Spelling.{item_spelling}
-use Rattle.script_model.specs.Faults as fault
 use Rattle.script_model.specs.Faults.{TreeFault}
 use Rattle.script_model.specs.Reading.{here, Items, with_item, escape_of, text_step, text_items}
 use Rattle.tree_laws.proofs.Steps.{same_Ok, err-ok, both_gave, passed, in_either}
@@ -139,20 +137,14 @@ item_sound start escaped n at b item bytes it e rest both =
     (item_more escaped n at b item bytes tail.0 (item_is escaped b item e) (rest false (n + 1) tail.0 (omega arith) tail.1))
 
 step_sound : (start : ℕ) (escaped : Bool) (n at b : ℕ) (bytes : List ℕ) (it : Items) (step : TextByte) → n ≤ 1024 → text_step escaped b ≡ step → Sound start (at + 1) bytes →
-    ◌≡◌ {A = Result Items TreeFault} (elim step [
-      | Item item ↦ elim (nat_lt n most_text_items) [
-        | true ↦ (text_items start false (n + 1) (at + 1) bytes >>= λ others. Ok (with_item item others))
-        | false ↦ Err (fault.LongText start)
-      ]
-      | Backslash ↦ text_items start true n (at + 1) bytes
-      | Quote ↦ Ok (record { items = []; next = here (at + 1) bytes })
-      | Unsound ↦ Err (fault.Byte at)
-    ]) (Ok it) → IsTextRead escaped n at (b ∷ bytes) it
-step_sound start escaped n at b bytes it (Item item) few e rest h = item_sound start escaped n at b item bytes it e rest (passed (nat_lt n 1024) _ _ _ h)
-step_sound start escaped n at b bytes it Backslash few e rest h = backslash_more escaped n at b bytes it (backslash_is escaped b e) (rest true n it few h)
+    text_items start escaped n at (b ∷ bytes) ≡ Ok it → IsTextRead escaped n at (b ∷ bytes) it
+unfolding text_items
+step_sound start escaped n at b bytes it (Item item) few e rest h =
+    item_sound start escaped n at b item bytes it e rest (passed (nat_lt n 1024) _ _ _ (rw (text_items, e) at h))
+step_sound start escaped n at b bytes it Backslash few e rest h = backslash_more escaped n at b bytes it (backslash_is escaped b e) (rest true n it few (rw (text_items, e) at h))
 step_sound start escaped n at b bytes it Quote few e rest h =
-    subst (λ (i : Items). IsTextRead escaped n at (b ∷ bytes) i) (same_Ok _ _ h) (quote_ends escaped n at b bytes (quote_is escaped b e) few)
-step_sound start escaped n at b bytes it Unsound few e rest h = absurd (err-ok _ _ h)
+    subst (λ (i : Items). IsTextRead escaped n at (b ∷ bytes) i) (same_Ok _ _ (rw (text_items, e) at h)) (quote_ends escaped n at b bytes (quote_is escaped b e) few)
+step_sound start escaped n at b bytes it Unsound few e rest h = absurd (err-ok _ _ (rw (text_items, e) at h))
 
 pub text_sound : (start at : ℕ) (bytes : List ℕ) → Sound start at bytes
 unfolding text_items

@@ -14,7 +14,7 @@ abbrev pub invariant-push_list-loop-at : goal.invariant-push_list-loop-at
 invariant-push_list-loop-at l = record {
   within : l.at ≤ length l.bytes;
   behind : l.paren < l.at;
-  read : IsListRead (tree_at l.lists) l.bytes l.paren l.at l.tree (grows l.fn.tree (list_by (tree_at l.lists) l.paren (drop (l.paren + 1) l.bytes)));
+  read : IsListRead (tree_at l.lists) l.bytes l.paren l.at l.draft (grows l.fn.draft (list_by (tree_at l.lists) l.paren (drop (l.paren + 1) l.bytes)));
 }
 
 abbrev pub decreases-push_list-loop-at : goal.decreases-push_list-loop-at
