@@ -121,6 +121,13 @@ takes_none receiver sender x xs none =
     ap (λ (all : List Message). elim (domain_of x == receiver && x.from == sender) [ true ↦ all | false ↦ takes receiver sender xs ]) (none (takes receiver sender xs))
     ∙ same_both (takes receiver sender xs) (domain_of x == receiver && x.from == sender)
 
+-- a line that takes of this sender to this receiver, and any other line
+pub takes_its : (receiver sender : ℕ) (x : Noted) (xs : List Noted) → (domain_of x == receiver && x.from == sender) ≡ true → takes receiver sender (x ∷ xs) ≡ taken x.label (takes receiver sender xs)
+takes_its receiver sender x xs e = ap (λ (b : Bool). elim b [ true ↦ taken x.label (takes receiver sender xs) | false ↦ takes receiver sender xs ]) e
+
+pub takes_others : (receiver sender : ℕ) (x : Noted) (xs : List Noted) → (domain_of x == receiver && x.from == sender) ≡ false → takes receiver sender (x ∷ xs) ≡ takes receiver sender xs
+takes_others receiver sender x xs e = ap (λ (b : Bool). elim b [ true ↦ taken x.label (takes receiver sender xs) | false ↦ takes receiver sender xs ]) e
+
 same_test : (a b : ℕ) → (a == b) ≡ (b == a)
 same_test a b = by_test (λ t. t ≡ (b == a)) (a == b)
     (λ e. sym (eq-eqb b a (sym (eqb-true a b e))))

@@ -1,3 +1,4 @@
 pub mod Rows
 pub mod Fates
 pub mod Coming
+pub mod Steps
