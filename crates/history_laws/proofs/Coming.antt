@@ -107,7 +107,7 @@ module _ (fates : Fates) where
       go true ih e = late_go last receiver x.away (stamp_of x) (sends sender receiver xs) m ms sound.0.stamp (not_below_last last x rises.0) ih e
       go false ih e = ih e
 
-same_both : {A : Type 0} (it : A) (b : Bool) → elim b [ true ↦ it | false ↦ it ] ≡ it
+pub same_both : {A : Type 0} (it : A) (b : Bool) → elim b [ true ↦ it | false ↦ it ] ≡ it
 same_both it true = refl
 same_both it false = refl
 

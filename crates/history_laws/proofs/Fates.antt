@@ -8,8 +8,8 @@ use Rattle.eio_value.specs.declared.message.Waiter.{Waiter}
 use Rattle.row_model.specs.ResumeWords.{Decision, Woken, Cancelled}
 use Rattle.row_model.specs.Row.{Row, only_row}
 use Rattle.machine_model.specs.Labels.{Label, Inner, Called, Struck, Mocked, Took}
-use Rattle.machine_model.specs.ObjectHistories.{Entry, calls_in, calls_on, IsObjectHistory, skipped_waits}
-use Rattle.machine_model.specs.PartsOfRuns.{DecidedWait, decided_by, HasStamp, sends, takes, Rises, is_alive}
+use Rattle.machine_model.specs.ObjectHistories.{Entry, calls_in, calls_on, calls_of, IsObjectHistory, skipped_waits}
+use Rattle.machine_model.specs.PartsOfRuns.{Parts, DecidedWait, decided_by, HasStamp, sends, takes, Rises, is_alive}
 use Rattle.machine_model.specs.Runs.{Letter, Noted, domain_of, stamp_of, message_stamp, stamps_below}
 use Rattle.machine_model.specs.Shared.{SharedState, decision_of, row_at, stamp_at}
 
@@ -101,3 +101,14 @@ pub record PartsLeft (last : ℕ × ℕ) (s : SharedState) (whole : (object : �
   pub stands : (cell armed : ℕ) → decision_of s.decided cell armed ≡ elim (comes lines cell armed) [ true ↦ None | false ↦ decision_by (fates cell armed) ]
   -- what no line that is left decides was decided by then
   pub past : (cell armed : ℕ) (fate : Fate) → fates cell armed ≡ Some fate → comes lines cell armed ≡ false → fate.stamp ≤ last.0
+
+-- the parts of a whole run, with fates in place of marks
+pub record AreFated (p : Parts) (fates : Fates) : Type 0 where
+  pub calls : (object d : ℕ) → calls_of d (calls_in (p.entries object)) ≡ calls_on object (p.logs d)
+  pub histories : (object : ℕ) → IsObjectHistory (row_at p.declared object) 0 (p.entries object)
+  pub skips : (object : ℕ) → SkipsDead fates (p.entries object)
+  pub sound : (d : ℕ) → AllSound fates (p.logs d)
+  -- each fate was made by a line of its maker's log
+  pub decided : (cell armed : ℕ) (fate : Fate) → fates cell armed ≡ Some fate → comes (p.logs fate.maker) cell armed ≡ true
+  pub none : (object : ℕ) → length p.declared ≤ object → p.entries object ≡ []
+  pub posts : (receiver sender : ℕ) → sends sender receiver (p.logs sender) ≡ takes receiver sender (p.logs receiver) ++ p.left receiver sender

@@ -2,3 +2,5 @@ pub mod Rows
 pub mod Fates
 pub mod Coming
 pub mod Steps
+pub mod Induction
+pub mod Merging

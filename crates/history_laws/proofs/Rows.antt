@@ -40,7 +40,7 @@ module _ {A : Type 0} (none : A) where
       (λ e. subst (λ (k : ℕ). under (slice_set xs n x) k ≡ x) (eqb-true n m e) (set_here xs n x h))
       (λ e. set_other xs n m x e)
 
-  pub under_same : (xs : List ℕ) (n : ℕ) → under (map (λ x. none) xs) n ≡ none
+  pub under_same : {B : Type 0} (xs : List B) (n : ℕ) → under (map (λ x. none) xs) n ≡ none
   under_same [] n = refl
   under_same (x ∷ xs) zero = refl
   under_same (x ∷ xs) (suc n) = under_same xs n
