@@ -4,3 +4,5 @@ pub mod Coming
 pub mod Steps
 pub mod Induction
 pub mod Merging
+pub mod Marks
+pub mod Waiting
