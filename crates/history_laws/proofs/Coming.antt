@@ -5,7 +5,6 @@ use Rattle.eio_value.specs.declared.message.Waiter.{Waiter}
 use Rattle.eio_value.specs.declared.raised.Outcome.{Outcome}
 use Rattle.row_model.specs.ResumeWords.{Decision}
 use Rattle.row_model.specs.Row.{Sent, Start, Resumes, Starts}
-use Rattle.machine_model.specs.Labels.{Label, Inner, Called, Struck, Mocked, Took}
 use Rattle.machine_model.specs.PartsOfRuns.{DecidedWait, decided_by, resumed, sent_away, first_of, HasStamp, sent_to, sends, taken, takes, Rises}
 use Rattle.machine_model.specs.Runs.{Letter, Noted, domain_of, stamp_of, message_stamp, away_of, Before, key_of}
 use Rattle.machine_model.specs.Shared.{message_of, receiver_of, mine_of, posted}
@@ -136,13 +135,13 @@ same_test a b = by_test (λ t. t ≡ (b == a)) (a == b)
 -- whom a call resumes stands in one of its two messages
 resumed_go : (d stamp : ℕ) (who : Waiter) (given : Outcome) (b : Bool)
     → first_of (resumed (elim b [ true ↦ Some (message_of stamp (Resumes who given)) | false ↦ None ]))
-      (resumed (sent_away (elim b [ true ↦ None | false ↦ Some (record { receiver = who.domain; message = message_of stamp (Resumes who given) }) ]))) ≡ Some who
+    (resumed (sent_away (elim b [ true ↦ None | false ↦ Some (record { receiver = who.domain; message = message_of stamp (Resumes who given) }) ]))) ≡ Some who
 resumed_go d stamp who given true = refl
 resumed_go d stamp who given false = refl
 
 started_go : (d stamp : ℕ) (start : Start) (b : Bool)
     → first_of (resumed (elim b [ true ↦ Some (message_of stamp (Starts start)) | false ↦ None ]))
-      (resumed (sent_away (elim b [ true ↦ None | false ↦ Some (record { receiver = start.domain; message = message_of stamp (Starts start) }) ]))) ≡ None
+    (resumed (sent_away (elim b [ true ↦ None | false ↦ Some (record { receiver = start.domain; message = message_of stamp (Starts start) }) ]))) ≡ None
 started_go d stamp start true = refl
 started_go d stamp start false = refl
 

@@ -1,7 +1,6 @@
 -- The lines that are left lead to the end, one by one.
-use Rattle.std.proofs.Common.{◌≡◌, ℕ, ◌==◌, Bool, true, false, List, [], ◌∷◌, Option, refl, sym, ap, ◌∙◌, subst, eqb-true, eq-eqb, append-nil}
+use Rattle.std.proofs.Common.{◌≡◌, ℕ, ◌==◌, Bool, true, false, List, [], ◌∷◌, refl, sym, ap, ◌∙◌, subst, eqb-true, eq-eqb, append-nil}
 use Rattle.eio_value.specs.declared.message.Message.{Message}
-use Rattle.row_model.specs.ResumeWords.{Decision}
 use Rattle.row_model.specs.Row.{Row, only_row}
 use Rattle.machine_model.specs.ObjectHistories.{Entry, calls_in, row_after}
 use Rattle.machine_model.specs.PartsOfRuns.{lines_of, is_alive}

@@ -6,3 +6,6 @@ pub mod Induction
 pub mod Merging
 pub mod Marks
 pub mod Waiting
+pub mod LinesOfCalls
+pub mod Entering
+pub mod LegalRuns

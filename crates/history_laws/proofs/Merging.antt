@@ -1,6 +1,6 @@
 -- From one log a domain to all lines in order.
 -- Both the calls of an object's history and the calls on it among all lines are sorted by stamp and domain, and have the same of each domain: so they are one list.
-use Rattle.std.proofs.Common.{◌≡◌, ℕ, ◌<◌, ◌⊎◌, inl, inr, ⊎_elim, Bool, true, false, ◌&&◌, ◌||◌, ◌==◌, List, [], ◌∷◌, ◌++◌, map, Option, Some, None, refl, sym, ap, ◌∙◌, subst, true≢false, arith, eqb-true, eq-eqb}
+use Rattle.std.proofs.Common.{◌≡◌, ℕ, ◌<◌, ◌⊎◌, inl, inr, ⊎_elim, Bool, true, false, ◌&&◌, ◌||◌, ◌==◌, List, [], ◌∷◌, ◌++◌, Option, Some, None, refl, sym, ap, ◌∙◌, subst, true≢false, arith, eqb-true, eq-eqb}
 use Rattle.eio_value.specs.declared.message.Message.{Message}
 use Rattle.row_model.specs.Row.{Row}
 use Rattle.machine_model.specs.Labels.{Label, Inner, Called, Struck, Mocked, Took}

@@ -4,7 +4,7 @@ use Rattle.std.specs.Option.{unwrap_or}
 use Rattle.std.proofs.lemmas.List.Elements.{filter_agree}
 use Rattle.eio_value.specs.declared.message.Waiter.{Waiter}
 use Rattle.row_model.specs.Row.{Row, Queued, only_row}
-use Rattle.machine_model.specs.Shared.{no_object, row_at}
+use Rattle.machine_model.specs.Shared.{row_at}
 use Rattle.model_laws.proofs.Alike.{only}
 
 -- what holds in both cases of a test, each with what the test gave, holds of the test

@@ -14,7 +14,7 @@ use Rattle.machine_model.specs.Labels.{Label, Inner, Called, Struck, Mocked, Too
 use Rattle.machine_model.specs.ObjectHistories.{Made, Skipped, Entry, calls_in, calls_on, entry_step, asked_on, less, is_among, row_after, IsObjectHistory, skipped_waits}
 use Rattle.machine_model.specs.PartsOfRuns.{DecidedWait, decided_by, woken_by, resumed, sent_away, first_of, sent_to, sends, taken, takes, is_uncancelled, is_alive}
 use Rattle.machine_model.specs.Runs.{Letter, Noted, domain_of, stamp_of, message_stamp, away_of, SharedMoves, put, key_of}
-use Rattle.machine_model.specs.Shared.{Asked, Decided, SharedState, decision_of, row_at, stamp_at, no_object, mine_of, with_woken, posted, stepped, after_call, strike_wins, after_strike, after_take}
+use Rattle.machine_model.specs.Shared.{Asked, Decided, SharedState, decision_of, row_at, stamp_at, no_object, mine_of, with_woken, stepped, after_call, strike_wins, after_strike, after_take}
 use Rattle.model_laws.specs.Skips.{only_stepped}
 use Rattle.model_laws.proofs.Alike.{skips_alike}
 use Rattle.history_laws.proofs.Coming.{is_itself, same_fate, not_below_last, Hit, hit, not_come, not_earlier, not_sent_below, sends_none, takes_none, takes_its, takes_others, woken_in, resumed_is, posted_last}
@@ -290,8 +290,8 @@ module _ (fates : Fates) (left : (receiver sender : ℕ) → List Message) where
           let n : decision_of s.decided asked.who.cell asked.who.armed ≡ None =
           p.stands asked.who.cell asked.who.armed
           ∙ by_test (λ c. elim c [ true ↦ None | false ↦ decision_by (fates asked.who.cell asked.who.armed) ] ≡ None) (comes (x ∷ xs) asked.who.cell asked.who.armed)
-            (λ t. refl)
-            (λ t. no_fate (fates asked.who.cell asked.who.armed) (λ f q. let l : stamp_of x < f.stamp = p.sound.0.sound waits f q in let k : f.stamp ≤ last.0 = p.past asked.who.cell asked.who.armed f q t in omega arith))
+          (λ t. refl)
+          (λ t. no_fate (fates asked.who.cell asked.who.armed) (λ f q. let l : stamp_of x < f.stamp = p.sound.0.sound waits f q in let k : f.stamp ≤ last.0 = p.past asked.who.cell asked.who.armed f q t in omega arith))
           in
           ap is_uncancelled n
 
@@ -382,8 +382,8 @@ module _ (fates : Fates) (left : (receiver sender : ℕ) → List Message) where
             sizes = simp length-set p.sizes;
             rows = λ object. under_set no_object s.rows asked.object object (stepped s asked).row exists
                 ∙ by_test (λ b. elim b [ true ↦ (stepped s asked).row | false ↦ row_at s.rows object ] ≡ only_row (is_alive next.decided) (elim b [ true ↦ step.row | false ↦ whole object ])) (asked.object == object)
-                  (λ e. ap (λ (u : Stepped). u.row) same_step ∙ row_agree (is_alive s.decided) (is_alive next.decided) alive_next step.row)
-                  (λ e. p.rows object ∙ row_agree (is_alive s.decided) (is_alive next.decided) alive_next (whole object));
+                (λ e. ap (λ (u : Stepped). u.row) same_step ∙ row_agree (is_alive s.decided) (is_alive next.decided) alive_next step.row)
+                (λ e. p.rows object ∙ row_agree (is_alive s.decided) (is_alive next.decided) alive_next (whole object));
             stands = λ cell armed. ap (λ (u : List Decided). decision_of u cell armed) decided_next ∙ stands_next last s whole x xs entries p cell armed;
             past = past_next last s whole x xs entries p;
           };
