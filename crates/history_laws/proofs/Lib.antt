@@ -9,3 +9,4 @@ pub mod Waiting
 pub mod LinesOfCalls
 pub mod Entering
 pub mod LegalRuns
+pub mod Longer

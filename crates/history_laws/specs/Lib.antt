@@ -1,1 +1,2 @@
 pub mod LegalRuns
+pub mod LongerParts

@@ -4,6 +4,7 @@
 #![tactic(auto)]
 
 ghost use Rattle.history_laws.specs.LegalRuns.{PartsMakeALegalRun};
+ghost use Rattle.history_laws.specs.LongerParts.{PartsExtend};
 
 /// The parts of a run are one log a domain, one history an object, the marks of each cell and the messages left in each post.
 /// Where they fit together, and each domain's log leads it on its own from one state to another, the lines of all logs, in order
@@ -12,4 +13,11 @@ ghost use Rattle.history_laws.specs.LegalRuns.{PartsMakeALegalRun};
 /// each post holds the messages left.
 pub fn parts_make_a_legal_run()
     ensures { PartsMakeALegalRun }
+{}
+
+/// Parts that fit together do so with one line more, at the end of its domain's log: where the line, with the entries and marks
+/// that it brings, goes on from where the log, the object's history and the cell have come to, and what was left and what it sends
+/// is what it takes and what is left then.
+pub fn parts_extend()
+    ensures { PartsExtend }
 {}
