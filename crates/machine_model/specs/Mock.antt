@@ -1,5 +1,5 @@
 -- A run on one mocked domain. All that is outside lies beside the domain, so that nothing in a move is free.
-use Rattle.std.specs.Prelude.{ℕ, zero, suc, ◌+◌, true, false, List, [], ◌∷◌, ◌*◌, length, map, Option, Some, None}
+use Rattle.std.specs.Prelude.{ℕ, zero, suc, ◌+◌, Bool, true, false, ◌&&◌, ◌||◌, not, List, [], ◌∷◌, ◌*◌, length, map, Option, Some, None}
 use Rattle.row_model.specs.Contexts.{root}
 use Rattle.row_model.specs.Row.{Stepped}
 use Rattle.script_model.specs.Opening.{opening_texts}
@@ -83,6 +83,14 @@ move_by script m it = (let stamp = m.local.stamp + 1 in elim (comes m stamp (ask
 -- the next move, if there is one
 unfoldable pub move : Script → Mock → Option Moved
 move script m = elim m.local.halted [ true ↦ None | false ↦ move_by script m (prepared m.local) ]
+
+abbrev pub has_any : {A : Type 0} → List A → Bool
+has_any [] = false
+has_any (x ∷ xs) = true
+
+-- something is left to be done: no limit was met, and there is an obligation, a fiber in the ready list, or a timer that stands
+abbrev pub can_move : DomainState → Bool
+can_move l = not l.halted && (has_any l.duties || has_any l.ready || has_any l.timers.standing)
 
 -- at most n moves
 unfoldable pub moves : Script → (n : ℕ) → Mock → List Moved

@@ -1,0 +1,3 @@
+pub mod Beginnings
+pub mod Moves
+pub mod Meanings

@@ -1,0 +1,24 @@
+-- What a run depends on in a script.
+use Rattle.std.specs.Prelude.{◌≡◌, ℕ}
+use Rattle.script_model.specs.Scripts.{Script}
+use Rattle.machine_model.specs.Mock.{mock}
+use Rattle.machine_model.specs.Trace.{run, trace}
+use Rattle.machine_model.specs.Answers.{ran}
+
+-- two scripts that differ at most in the places of their forms and of their first further body
+pub record MeanTheSame (a b : Script) : Type 0 where
+  pub names : a.names ≡ b.names
+  pub declarations : a.declarations ≡ b.declarations
+  pub bodies : a.bodies ≡ b.bodies
+  pub texts : a.texts ≡ b.texts
+  pub failures : a.failures ≡ b.failures
+
+-- the same moves, states, trace and answer
+pub record RunAlike (a b : Script) (n : ℕ) : Type 0 where
+  pub moves : (run a n).moves ≡ (run b n).moves
+  pub states : mock a n ≡ mock b n
+  pub trace : trace a (run a n).moves ≡ trace b (run b n).moves
+  pub answer : ran a n ≡ ran b n
+
+abbrev pub RunsGoByMeaning : Type 0
+RunsGoByMeaning = (a b : Script) → MeanTheSame a b → (n : ℕ) → RunAlike a b n

@@ -1,0 +1,29 @@
+//! Laws of runs on one mocked domain, each as the contract of an empty public function.
+//!
+//! A law is stated in `specs/`, and what proves it stands in the file of `proofs/` that its answer names.
+#![tactic(auto)]
+
+ghost use Rattle.run_laws.specs.Beginnings.{MovesBeginAlike, StatesBeginAlike, TracesBeginAlike};
+ghost use Rattle.run_laws.specs.Meanings.{RunsGoByMeaning};
+ghost use Rattle.run_laws.specs.Moves.{MovesWhereSomethingIsLeft, ShortRunsAreOver};
+
+/// The moves of a run of at most n + k moves begin with those of the run of at most n moves; so do its states, and so
+/// does its trace.
+pub fn runs_begin_alike()
+    ensures moves { MovesBeginAlike }
+    ensures states { StatesBeginAlike }
+    ensures traces { TracesBeginAlike }
+{}
+
+/// A move exists exactly where no limit was met and there is an obligation, a fiber in the ready list, or a timer
+/// that stands. So a run that made fewer moves than it may has come to a state where nothing is left.
+pub fn moves_where_something_is_left()
+    ensures exactly { MovesWhereSomethingIsLeft }
+    ensures stops { ShortRunsAreOver }
+{}
+
+/// Two scripts with the same names, declarations, bodies, texts and texts of failures have the same moves, states,
+/// trace and answer: a run depends on no place of a form.
+pub fn runs_go_by_meaning()
+    ensures { RunsGoByMeaning }
+{}
