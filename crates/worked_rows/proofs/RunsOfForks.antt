@@ -64,3 +64,8 @@ daemons_go_after_forks = refl
 a_fork_while_its_switch_waits : mocks "(eio 1 (main (switch s (fork s (yield) (fork s (trace \"in\")) (trace \"f\")) (trace \"m\"))))" ≡ ok "+m\n+in\n+f\n"
 unfolding mocks
 a_fork_while_its_switch_waits = refl
+
+-- nothing is forked any more, but the handler is taken
+a_cancelled_daemon_calls_on_its_switch : mocks "(eio 1 (main (switch s (fork-daemon s (try ((await-cancel)) e ((fork s (trace \"n\")) (on-release s (trace \"r\")) (trace e)))) (on-release s (trace \"h\")) (trace \"m\"))))" ≡ ok "+m\n+Cancelled: Exit\n+r\n+h\n"
+unfolding mocks
+a_cancelled_daemon_calls_on_its_switch = refl
