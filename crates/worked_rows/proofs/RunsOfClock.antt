@@ -58,3 +58,15 @@ the_clock_stands_while_a_fiber_is_ready = refl
 a_sleep_past_it_in_a_context_that_is_off : mocks "(eio 1 (main (sub c (sleep 1) (cancel c \"x\") (sleep 9223372036854775807))))" ≡ raised "+mock time is now 1\n!Invalid_argument \"Overflow\"\n"
 unfolding mocks
 a_sleep_past_it_in_a_context_that_is_off = refl
+
+a_protected_daemon_is_waited_for : mocks "(eio 1 (main (switch s (fork-daemon s (protect (sleep 3) (trace \"d\"))) (trace \"m\")) (let t (now)) (trace t)))" ≡ ok "+m\n+mock time is now 3\n+d\n+3\n"
+unfolding mocks
+a_protected_daemon_is_waited_for = refl
+
+sleeps_in_two_fibers : mocks "(eio 1 (main (both ((sleep 2) (trace \"a\") (sleep 2) (trace \"c\")) ((sleep 3) (trace \"b\") (sleep 1) (trace \"d\"))) (sleep (minus 0 1)) (let t (now)) (trace t)))" ≡ ok "+mock time is now 2\n+a\n+mock time is now 3\n+b\n+mock time is now 4\n+c\n+d\n+4\n"
+unfolding mocks
+sleeps_in_two_fibers = refl
+
+a_sleep_is_cancelled_by_a_fork : mocks "(eio 1 (main (switch s (fork s (sleep 5) (raise \"t\")) (try ((sleep 9)) e ((trace e) (let n (now)) (trace n) (sleep 0) (sleep 2))))))" ≡ raised "+mock time is now 5\n+Cancelled: Failure \"t\"\n+5\n!Failure \"t\"\n"
+unfolding mocks
+a_sleep_is_cancelled_by_a_fork = refl

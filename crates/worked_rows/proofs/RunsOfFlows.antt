@@ -1,6 +1,6 @@
 -- Flows, their readers and writers.
 use Rattle.std.proofs.Common.{◌≡◌, refl}
-use Rattle.worked_rows.specs.Run.{mocks, ok}
+use Rattle.worked_rows.specs.Run.{mocks, ok, raised}
 
 lines : mocks "(eio 1 (flow f (data \"a\\r\") (data \"\\nb\")) (main (buf-read b f 16 (let x (line b)) (trace x) (let y (line b)) (trace y) (try ((line b)) e ((trace e))))))" ≡ ok "+f: read \"a\\r\"\n+f: read \"\\nb\"\n+a\n+b\n+End_of_file\n"
 unfolding mocks
@@ -86,3 +86,11 @@ a_put_while_a_shut_waits = refl
 two_readers_of_a_flow : mocks "(eio 1 (flow f (data \"ab\") (data \"cd\")) (main (buf-read a f 8 (let x (char a)) (buf-read b f 8 (let y (take-all b)) (trace x y)) (let z (take-all a)) (trace z))))" ≡ ok "+f: read \"ab\"\n+f: read \"cd\"\n+acd\n+b\n"
 unfolding mocks
 two_readers_of_a_flow = refl
+
+two_fibers_read_lines : mocks "(eio 1 (flow f (data \"a\\nb\") (pause) (data \"c\\r\\n\") (fault \"z\") (data \"d\")) (main (switch s (buf-read b f 4 (fork s (try ((loop (let l (line b)) (trace \"1\" l))) e ((trace \"1\" e)))) (try ((loop (let l (line b)) (trace \"2\" l))) e ((trace \"2\" e))) (try ((let l (line b)) (trace l)) e ((trace e)))))))" ≡ ok "+f: read \"a\\nb\"\n+1a\n+f: read \"c\\r\\n\"\n+2bc\n+2Failure \"z\"\n+f: read \"d\"\n+d\n+1Invalid_argument \"Closed\"\n"
+unfolding mocks
+two_fibers_read_lines = refl
+
+writers_one_after_the_other : mocks "(eio 1 (flow g) (main (switch s (buf-write w g (fork s (put w \"1\") (yield) (put w \"2\")) (put w \"3\") (yield) (put w \"4\")) (buf-write v g (put v \"5\") (fail s \"x\") (yield) (put v \"6\")))))" ≡ raised "+g: wrote \"13\"\n+g: wrote \"24\"\n+g: wrote \"5\"\n!Failure \"x\"\n"
+unfolding mocks
+writers_one_after_the_other = refl

@@ -6,9 +6,9 @@ a_fork_runs_first : mocks "(eio 1 (main (switch s (fork s (trace \"x\") (yield) 
 unfolding mocks
 a_fork_runs_first = refl
 
-the_last_fork_runs_first : mocks "(eio 1 (main (switch s (fork s (fork s (trace \"b\")) (trace \"c\")) (trace \"d\"))))" ≡ ok "+b\n+c\n+d\n"
+a_fork_in_a_fork_runs_first : mocks "(eio 1 (main (switch s (fork s (fork s (trace \"b\")) (trace \"c\")) (trace \"d\"))))" ≡ ok "+b\n+c\n+d\n"
 unfolding mocks
-the_last_fork_runs_first = refl
+a_fork_in_a_fork_runs_first = refl
 
 -- those of that moment
 a_fork_has_the_variables : mocks "(eio 1 (main (let x 1) (switch s (fork s (yield) (let y (plus x 1)) (trace y)) (let x 5) (trace x))))" ≡ ok "+5\n+2\n"
@@ -64,3 +64,8 @@ daemons_go_after_forks = refl
 a_fork_while_its_switch_waits : mocks "(eio 1 (main (switch s (fork s (yield) (fork s (trace \"in\")) (trace \"f\")) (trace \"m\"))))" ≡ ok "+m\n+in\n+f\n"
 unfolding mocks
 a_fork_while_its_switch_waits = refl
+
+-- nothing is forked any more, but the handler is taken
+a_cancelled_daemon_calls_on_its_switch : mocks "(eio 1 (main (switch s (fork-daemon s (try ((await-cancel)) e ((fork s (trace \"n\")) (on-release s (trace \"r\")) (trace e)))) (on-release s (trace \"h\")) (trace \"m\"))))" ≡ ok "+m\n+Cancelled: Exit\n+r\n+h\n"
+unfolding mocks
+a_cancelled_daemon_calls_on_its_switch = refl

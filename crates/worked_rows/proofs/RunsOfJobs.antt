@@ -1,6 +1,6 @@
 -- Executors and their jobs.
 use Rattle.std.proofs.Common.{◌≡◌, refl}
-use Rattle.worked_rows.specs.Run.{mocks, ok, deadlock}
+use Rattle.worked_rows.specs.Run.{mocks, ok, raised, deadlock}
 
 a_job_with_a_variable : mocks "(eio 1 (executor e 0 0) (main (let x 5) (let y (submit e 60 (x) (give (plus x 2)))) (trace y)))" ≡ ok "+7\n"
 unfolding mocks
@@ -48,3 +48,8 @@ a_job_in_a_job = refl
 a_job_in_a_job_that_does_not_fit : mocks "(eio 1 (executor e 0) (main (submit e 60 () (submit e 60 () (trace \"n\")))))" ≡ deadlock "!Deadlock_detected\n"
 unfolding mocks
 a_job_in_a_job_that_does_not_fit = refl
+
+-- who waits for a is cancelled; who waited for b was woken before
+jobs_on_three_workers : mocks "(eio 1 (executor e 0 0 0) (main (all ((let a (submit e 70 () (yield) (yield) (give \"a\"))) (trace a)) ((let b (submit e 40 () (yield) (give \"b\"))) (trace b)) ((let c (submit e 90 () (give \"c\"))) (trace c)) ((let d (submit e 30 () (raise \"d\"))) (trace d)))))" ≡ raised "+c\n+b\n!Failure \"d\"\n"
+unfolding mocks
+jobs_on_three_workers = refl

@@ -42,3 +42,11 @@ a_link_that_leads_nowhere = refl
 the_directory_itself : mocks "(eio 1 (dir c (sub \"d\")) (main (try ((mkdir c \"\")) x ((trace x))) (try ((unlink c \".\")) x ((trace x))) (try ((rmdir c \"d/..\")) x ((trace x))) (try ((open-dir c \"/\" k)) x ((trace x))) (let k (kind c \"d/.\")) (trace k)))" ≡ ok "+Already_exists \"\"\n+Is_directory \".\"\n+Permission_denied \"d/..\"\n+Permission_denied \"/\"\n+dir\n"
 unfolding mocks
 the_directory_itself = refl
+
+links_and_removals : mocks "(eio 1 (dir c (sub \"a\" (link \"up\" \"../b\") (sub \"b\" (file \"f\" \"1\"))) (sub \"b\" (file \"f\" \"2\") (link \"abs\" \"/a\"))) (main (let x (load c \"a/up/f\")) (trace x) (open-dir c \"a\" k (try ((load k \"up/f\")) e ((trace e))) (let y (load k \"b//./f\")) (trace y) (unlink k \"b/f\") (rmdir k \"b\") (try ((rmdir c \"a\")) e ((trace e))) (unlink c \"a/up\") (rmdir c \"a\") (try ((save k \"n\" \"x\")) e ((trace e))) (try ((kind k \"..\")) e ((trace e)))) (try ((load c \"b/abs\")) e ((trace e))) (try ((kind c \"b/abs/x\")) e ((trace e))) (try ((mkdir c \"b/abs\")) e ((trace e)))))" ≡ ok "+2\n+Permission_denied \"up/f\"\n+1\n+Not_empty \"a\"\n+Not_found \"n\"\n+Not_found \"..\"\n+Permission_denied \"b/abs\"\n+Permission_denied \"b/abs/x\"\n+Already_exists \"b/abs\"\n"
+unfolding mocks
+links_and_removals = refl
+
+two_trees : mocks "(eio 1 (dir c) (dir d (link \"l\" \"\")) (main (save c \"a\" \"1\") (try ((load d \"a\")) e ((trace e))) (try ((load d \"l\")) e ((trace e))) (try ((save-new d \"l\" \"\")) e ((trace e))) (try ((mkdir d \"x/..\")) e ((trace e))) (try ((save d \"\" \"\")) e ((trace e))) (mkdir d \"x/\") (let k (kind d \"x/..\")) (let n (read-dir d \"l\")) (trace k n)))" ≡ ok "+Not_found \"a\"\n+Is_directory \"l\"\n+Already_exists \"l\"\n+Not_found \"x/..\"\n+Is_directory \"\"\n+dirl x\n"
+unfolding mocks
+two_trees = refl

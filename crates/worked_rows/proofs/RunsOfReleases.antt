@@ -44,3 +44,7 @@ the_value_behind_handlers = refl
 handlers_wait_for_forks : mocks "(eio 1 (main (switch s (on-release s (trace \"h\")) (fork s (yield) (trace \"f\")) (fork-daemon s (try ((await-cancel)) x ((trace \"d\")))))))" ≡ ok "+f\n+d\n+h\n"
 unfolding mocks
 handlers_wait_for_forks = refl
+
+handlers_that_fail_and_open_a_switch : mocks "(eio 1 (main (switch s (on-release s (fail s \"f\") (trace \"h\")) (on-release s (switch t (fork t (yield) (trace \"in\")) (trace \"t\"))) (trace \"b\"))))" ≡ raised "+b\n+t\n+in\n+h\n!Failure \"f\"\n"
+unfolding mocks
+handlers_that_fail_and_open_a_switch = refl

@@ -54,3 +54,11 @@ a_cancelled_lock_takes_nothing = refl
 a_cancelled_use_uses_nothing : mocks "(eio 1 (pool r 1) (main (use-pool r x (first ((use-pool r y (trace \"n\"))) ()) (trace x)) (use-pool r z (trace z))))" ≡ ok "+0\n+0\n"
 unfolding mocks
 a_cancelled_use_uses_nothing = refl
+
+one_at_a_time : mocks "(eio 1 (semaphore m 1) (main (switch s (repeat k 3 (fork s (acquire m) (trace \"in\" k) (yield) (trace \"out\" k) (release m))))))" ≡ ok "+in0\n+out0\n+in1\n+out1\n+in2\n+out2\n"
+unfolding mocks
+one_at_a_time = refl
+
+passed_on_and_then_poisoned : mocks "(eio 1 (mutex m) (main (switch s (repeat k 3 (fork s (try ((use-rw m (trace \"in\" k) (yield) (if (same k 1) ((raise \"p\")) ()) (trace \"out\" k))) e ((trace k e))))))))" ≡ ok "+in0\n+out0\n+in1\n+1Failure \"p\"\n+2Poisoned\n"
+unfolding mocks
+passed_on_and_then_poisoned = refl

@@ -34,3 +34,7 @@ takers_in_order = refl
 an_adder_at_no_capacity : mocks "(eio 1 (stream q 0) (main (both ((add q 1) (trace \"added\")) ((let n (length q)) (trace n) (let x (take q)) (trace x)))))" ≡ ok "+0\n+1\n+added\n"
 unfolding mocks
 an_adder_at_no_capacity = refl
+
+waiting_adders_move_up : mocks "(eio 1 (stream q 2) (main (switch s (repeat k 4 (fork s (add q k))) (let n (length q)) (trace n) (repeat k 4 (let x (take q)) (let n (length q)) (trace x n)))))" ≡ ok "+2\n+02\n+12\n+21\n+30\n"
+unfolding mocks
+waiting_adders_move_up = refl
