@@ -1,6 +1,6 @@
 -- A wait is decided after the call that entered it.
 -- A strike that decides it is of the same domain, and comes above the armed stamp. A call that decides it has found it in its object, where an earlier call had
--- entered it; and two lines of a log that enter one wait are one line, since each armed stamp lies right below its line's.
+-- entered it; and two lines of a log that enter one wait are one line, since its armed stamp lies between the line's own stamp and all earlier ones of the log.
 use Rattle.std.proofs.Common.{◌≡◌, ℕ, ◌<◌, ◌≤◌, inl, inr, ⊎_elim, Bool, true, false, not, List, [], ◌∷◌, Option, Some, None, refl, sym, ap, ◌∙◌, subst, arith}
 use Rattle.eio_value.specs.declared.call.Answer.{Answer}
 use Rattle.eio_value.specs.declared.call.Answer.TheVariants as answer

@@ -10,3 +10,4 @@ pub mod LinesOfCalls
 pub mod Entering
 pub mod LegalRuns
 pub mod Longer
+mod WorkedRun

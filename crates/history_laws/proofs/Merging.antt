@@ -86,7 +86,7 @@ history_sorted row last (e ∷ es) h = (inl h.0.later, history_sorted (entry_ste
 its_call : (d : ℕ) (m : Made) (ms : List Made) → (m.domain == d) ≡ true → calls_of d (m ∷ ms) ≡ m ∷ calls_of d ms
 its_call d m ms e = ap (λ (b : Bool). elim b [ true ↦ m ∷ calls_of d ms | false ↦ calls_of d ms ]) e
 
-others_call : (d : ℕ) (m : Made) (ms : List Made) → (m.domain == d) ≡ false → calls_of d (m ∷ ms) ≡ calls_of d ms
+pub others_call : (d : ℕ) (m : Made) (ms : List Made) → (m.domain == d) ≡ false → calls_of d (m ∷ ms) ≡ calls_of d ms
 others_call d m ms e = ap (λ (b : Bool). elim b [ true ↦ m ∷ calls_of d ms | false ↦ calls_of d ms ]) e
 
 own_call : (m : Made) (ms : List Made) → calls_of m.domain (m ∷ ms) ≡ m ∷ calls_of m.domain ms
