@@ -71,13 +71,13 @@ fibers_do : (role : Role) (g : ℕ) (fiber : Fiber) (next : Next) (l : DomainSta
 fibers_do (OfWriter writer) g fiber next l = refl
 fibers_do role g fiber next l = refl
 
-abbrev by_timers : DomainState → List Timer → Prepared
+abbrev pub by_timers : DomainState → List Timer → Prepared
 by_timers l standing = elim standing [ [] ↦ record { doing = doing.Rests; state = l } | timer ∷ others ↦ record { doing = doing.Ticks; state = l } ]
 
-abbrev by_ready : DomainState → List ℕ → Prepared
+abbrev pub by_ready : DomainState → List ℕ → Prepared
 by_ready l ready = elim ready [ [] ↦ prepared_timers l | g ∷ others ↦ doing.moves g (fiber_at l.fibers g) (record l { ready = others }) ]
 
-abbrev by_duties : DomainState → List Duty → Prepared
+abbrev pub by_duties : DomainState → List Duty → Prepared
 by_duties l duties = elim duties [ [] ↦ prepared_ready l | duty ∷ others ↦ record { doing = doing.Owes duty; state = record l { duties = others } } ]
 
 timers_do : (l : DomainState) (standing : List Timer) → isnt_rest (by_timers l standing).doing ≡ has_any standing

@@ -1,3 +1,5 @@
 pub mod Beginnings
 pub mod Moves
 pub mod Meanings
+pub mod Exceptions
+pub mod Serials

@@ -6,6 +6,7 @@
 ghost use Rattle.run_laws.specs.Beginnings.{MovesBeginAlike, StatesBeginAlike, TracesBeginAlike};
 ghost use Rattle.run_laws.specs.Meanings.{RunsGoByMeaning};
 ghost use Rattle.run_laws.specs.Moves.{MovesWhereSomethingIsLeft, ShortRunsAreOver};
+ghost use Rattle.run_laws.specs.Serials.{RaisesAreApart, RaisesAreNumbered, SerialsRise};
 
 /// The moves of a run of at most n + k moves begin with those of the run of at most n moves; so do its states, and so
 /// does its trace.
@@ -26,4 +27,13 @@ pub fn moves_where_something_is_left()
 /// trace and answer: a run depends on no place of a form.
 pub fn runs_go_by_meaning()
     ensures { RunsGoByMeaning }
+{}
+
+/// The counter of raises never falls in a move. In a run each exception that stands in a state stood in the state
+/// before, or has a number that the counter gave in the move between them. So in each state of a run all exceptions have
+/// numbers below the counter, and two with one number are one raise.
+pub fn serials_rise()
+    ensures rise { SerialsRise }
+    ensures numbered { RaisesAreNumbered }
+    ensures apart { RaisesAreApart }
 {}

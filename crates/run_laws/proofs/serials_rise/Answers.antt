@@ -1,0 +1,11 @@
+use Rattle.run_laws.proofs.Serials.{serials_rise, raises_are_numbered, raises_are_apart}
+use Rattle.run_laws.proofs.serials_rise.Goals as goal
+
+pub returns-clause-rise : goal.returns-clause-rise
+returns-clause-rise c = serials_rise
+
+pub returns-clause-numbered : goal.returns-clause-numbered
+returns-clause-numbered c = raises_are_numbered
+
+pub returns-clause-apart : goal.returns-clause-apart
+returns-clause-apart c = raises_are_apart
