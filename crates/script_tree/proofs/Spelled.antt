@@ -1,9 +1,12 @@
 -- The pieces of a tree, one after another, are its canonical spelling (`spelled_tree`); a loop over them (`spelled_step`,
 -- `spelled_none`).
-use Rattle.std.proofs.Common.{◌≡◌, ℕ, ◌+◌, ◌<◌, ◌≤◌, Bool, true, false, List, [], ◌∷◌, ◌++◌, length, map, drop, get_or, Result, Ok, Err, refl, arith, ap, sym, ◌∙◌, append_assoc, append-nil, add-one, drop-cons}
+use Rattle.std.proofs.Common.{◌≡◌, ℕ, ◌+◌, ◌<◌, ◌≤◌, Bool, true, false, List, [], ◌∷◌, ◌++◌, length, map, take, drop, get_or, Result, Ok, Err, refl, arith, ap, sym, ◌∙◌, append_assoc, append-nil, add-one, drop-cons, length-append}
 use Rattle.std.specs.Prelude.{OnOk}
 use Rattle.std.proofs.lemmas.Grind.{common_steps}
-use Rattle.script_model.specs.Bytes.{line_feed, space, open_paren, close_paren}
+use Rattle.std.specs.List.{flat_map}
+use Rattle.std.proofs.lemmas.List.Folds.{length-flat_map-take}
+use Rattle.script_model.specs.Bytes.{line_feed, space, quote, open_paren, close_paren}
+use Rattle.script_model.specs.Spelling.{item_spelling, text_spelling}
 use Rattle.script_model.specs.Trees.{Tree, Word, Number, Text, Branch, Trees, Nil, And}
 use Rattle.script_model.specs.Canonical.{canonical, canonical_row, canonical_rest, document}
 use Rattle.script_tree.specs.declared.tree.Node.{Node}
@@ -42,8 +45,12 @@ spelled_document : (tree : Tree) → spelled false (pieces tree) ++ line_feed �
 unfolding spelled document
 spelled_document tree = ap (λ bs. bs ++ line_feed ∷ []) (ap (spelled false) (sym (append-nil (pieces tree))) ∙ (spelled_tree false tree [] ∙ append-nil (canonical tree)))
 
+-- a whole document, by the pieces of its tree
+pub document_is : (tree : Tree) (ps : List Piece) → ps ≡ pieces tree → spelled false ps ++ line_feed ∷ [] ≡ document tree
+document_is tree ps is = ap (λ qs. spelled false qs ++ line_feed ∷ []) is ∙ spelled_document tree
+
 pub document_pushed : {A E : Type 0} (r : Result A E) (old new : List ℕ) (tree : Tree) (ps : List Piece) → ps ≡ pieces tree → OnOk r (new ≡ old ++ (spelled false ps ++ line_feed ∷ [])) → OnOk r (new ≡ old ++ document tree)
-document_pushed (Ok x) old new tree ps is pushed = pushed ∙ ap (λ bs. old ++ bs) (ap (λ qs. spelled false qs ++ line_feed ∷ []) is ∙ spelled_document tree)
+document_pushed (Ok x) old new tree ps is pushed = pushed ∙ ap (λ bs. old ++ bs) (document_is tree ps is)
 document_pushed (Err e) old new tree ps is pushed = tt
 
 -- the node at a place, and those behind it
@@ -70,3 +77,19 @@ unfolding spelled
 spelled_none out whole behind nodes i least so_far =
     let none : drop i nodes ≡ [] = grind (arith, common_steps) in
     sym (append-nil out) ∙ (ap (λ ns. out ++ spelled behind (map piece_of ns)) (sym none) ∙ so_far)
+
+-- what is still to be written is no longer than all of it
+pub rest_within : (old out all : List ℕ) (behind due : Bool) (nodes : List Node) (i : ℕ) (node : Node) → i < length nodes → node ≡ get_or nodes i node → due ≡ is_space_due behind (piece_of node)
+    → out ++ spelled behind (map piece_of (drop i nodes)) ≡ old ++ all → length out + (length (gap_if due) + length (piece_spelling (piece_of node))) ≤ length old + length all
+unfolding spelled
+rest_within old out all behind due nodes i node less is due_is so_far =
+    let piece = piece_of node in
+    let rest = spelled (ends_tree piece) (map piece_of (drop (i + 1) nodes)) in
+    let split : out ++ (gap_if (is_space_due behind piece) ++ (piece_spelling piece ++ rest)) ≡ old ++ all = ap (λ ps. out ++ spelled behind ps) (sym (node_first nodes i node less is)) ∙ so_far in
+    let gap : length (gap_if due) ≡ length (gap_if (is_space_due behind piece)) = ap (λ b. length (gap_if b)) due_is in
+    omega (arith, gap, simp length-append at (ap length split))
+
+-- the next item of a text is within the whole
+pub item_within : (old out text : List ℕ) (i : ℕ) → i < length text → out ≡ old ++ quote ∷ flat_map item_spelling (take i text) → length out + length (item_spelling (get_or text i 0)) ≤ length old + length (text_spelling text)
+item_within old out text i less so_far =
+    omega (arith, simp length-append at (ap length so_far), length-append (flat_map item_spelling text) (quote ∷ []), length-flat_map-take item_spelling text i 0 less)

@@ -1,6 +1,9 @@
 //! Writing: a tree in its canonical spelling, piece by piece. The theorem is the clauses of [`write_tree`].
+//!
+//! Each call appends to `out`. Where memory runs out on the way, what stood in `out` before still stands at its front, and
+//! [`write_tree`] cuts off the rest.
 
-ghost use Rattle.std.specs.Prelude.{◌≡◌, [], ◌∷◌, ◌++◌, map, OnOk, OnErr, false};
+ghost use Rattle.std.specs.Prelude.{◌≡◌, ◌≤◌, ◌+◌, [], ◌∷◌, ◌++◌, length, map, IsOk, OnOk, OnErr, vec_len, vec_capacity, false};
 ghost use Rattle.script_model.specs.Bytes.{line_feed};
 ghost use Rattle.script_model.specs.Spelling.{item_spelling, text_spelling};
 ghost use Rattle.script_model.specs.Canonical.{document};
@@ -15,10 +18,12 @@ use itoa::Buffer;
 /// Appends a tree in its canonical spelling, and a line feed.
 ///
 /// # Errors
-/// [`NoMemory`] where memory runs out; `out` is then as it was.
+/// [`NoMemory`] where memory runs out, for lack of room in `out` alone; `out` is then as it was.
 pub fn write_tree(tree: &Tree, out: &mut Vec<u8>) -> Result<(), NoMemory>
     ensures ok { OnOk result (out.new.items ≡ out.old.items ++ document tree.now) }
     ensures err { OnErr result (out.new.items ≡ out.old.items) }
+    ensures room { vec_len out.old + length (document tree.now) ≤ vec_capacity out.old → IsOk result }
+    ensures capacity { vec_capacity out.old ≤ vec_capacity out.new }
 {
     let len = out.len();
     let written = push_document(tree.nodes(), out);
@@ -32,6 +37,8 @@ pub fn write_tree(tree: &Tree, out: &mut Vec<u8>) -> Result<(), NoMemory>
 fn push_document(nodes: &[Node], out: &mut Vec<u8>) -> Result<(), NoMemory>
     ensures ok { OnOk result (out.new.items ≡ out.old.items ++ (spelled.spelled false (map piece_of nodes.now) ++ line_feed ∷ [])) }
     ensures err { OnErr result (IsFront out.old.items out.new.items) }
+    ensures room { vec_len out.old + length (spelled.spelled false (map piece_of nodes.now) ++ line_feed ∷ []) ≤ vec_capacity out.old → IsOk result }
+    ensures capacity { vec_capacity out.old ≤ vec_capacity out.new }
 {
     push_pieces(nodes, out)?;
     out.push(b'\n')?;
@@ -42,6 +49,8 @@ fn push_document(nodes: &[Node], out: &mut Vec<u8>) -> Result<(), NoMemory>
 fn push_pieces(nodes: &[Node], out: &mut Vec<u8>) -> Result<(), NoMemory>
     ensures ok { OnOk result (out.new.items ≡ out.old.items ++ spelled.spelled false (map piece_of nodes.now)) }
     ensures err { OnErr result (IsFront out.old.items out.new.items) }
+    ensures room { vec_len out.old + length (spelled.spelled false (map piece_of nodes.now)) ≤ vec_capacity out.old → IsOk result }
+    ensures capacity { vec_capacity out.old ≤ vec_capacity out.new }
 {
     let mut behind_tree = false;
     for node in nodes {
@@ -70,6 +79,8 @@ fn ends_tree(node: &Node) -> bool
 fn push_gap(is_due: bool, out: &mut Vec<u8>) -> Result<(), NoMemory>
     ensures ok { OnOk result (out.new.items ≡ out.old.items ++ spelled.gap_if is_due) }
     ensures err { OnErr result (out.new.items ≡ out.old.items) }
+    ensures room { vec_len out.old + length (spelled.gap_if is_due) ≤ vec_capacity out.old → IsOk result }
+    ensures capacity { vec_capacity out.old ≤ vec_capacity out.new }
 {
     if is_due {
         out.push(b' ')?;
@@ -81,6 +92,8 @@ fn push_gap(is_due: bool, out: &mut Vec<u8>) -> Result<(), NoMemory>
 fn push_piece(node: &Node, out: &mut Vec<u8>) -> Result<(), NoMemory>
     ensures ok { OnOk result (out.new.items ≡ out.old.items ++ spelled.piece_spelling (piece_of node.now)) }
     ensures err { OnErr result (IsFront out.old.items out.new.items) }
+    ensures room { vec_len out.old + length (spelled.piece_spelling (piece_of node.now)) ≤ vec_capacity out.old → IsOk result }
+    ensures capacity { vec_capacity out.old ≤ vec_capacity out.new }
 {
     match node {
         Node::Word { word, .. } => push_bytes(word, out),
@@ -95,6 +108,8 @@ fn push_piece(node: &Node, out: &mut Vec<u8>) -> Result<(), NoMemory>
 fn push_bytes(bytes: &[u8], out: &mut Vec<u8>) -> Result<(), NoMemory>
     ensures ok { OnOk result (out.new.items ≡ out.old.items ++ bytes.now) }
     ensures err { OnErr result (IsFront out.old.items out.new.items) }
+    ensures room { vec_len out.old + length bytes.now ≤ vec_capacity out.old → IsOk result }
+    ensures capacity { vec_capacity out.old ≤ vec_capacity out.new }
 {
     out.extend_from_slice(bytes)?;
     Ok(())
@@ -104,6 +119,8 @@ fn push_bytes(bytes: &[u8], out: &mut Vec<u8>) -> Result<(), NoMemory>
 fn push_text(text: &[u8], out: &mut Vec<u8>) -> Result<(), NoMemory>
     ensures ok { OnOk result (out.new.items ≡ out.old.items ++ text_spelling text.now) }
     ensures err { OnErr result (IsFront out.old.items out.new.items) }
+    ensures room { vec_len out.old + length (text_spelling text.now) ≤ vec_capacity out.old → IsOk result }
+    ensures capacity { vec_capacity out.old ≤ vec_capacity out.new }
 {
     out.push(b'"')?;
     for item in text {
@@ -117,6 +134,8 @@ fn push_text(text: &[u8], out: &mut Vec<u8>) -> Result<(), NoMemory>
 fn push_item(item: u8, out: &mut Vec<u8>) -> Result<(), NoMemory>
     ensures ok { OnOk result (out.new.items ≡ out.old.items ++ item_spelling item) }
     ensures err { OnErr result (IsFront out.old.items out.new.items) }
+    ensures room { vec_len out.old + length (item_spelling item) ≤ vec_capacity out.old → IsOk result }
+    ensures capacity { vec_capacity out.old ≤ vec_capacity out.new }
 {
     match item {
         b'\n' => push_bytes(b"\\n", out),
