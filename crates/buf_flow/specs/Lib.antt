@@ -1,1 +1,4 @@
+pub mod BufReadInside
 pub mod FlowReads
+pub mod Items
+pub mod LineFeeds

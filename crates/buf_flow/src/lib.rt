@@ -6,8 +6,11 @@
 #![tactic(auto)]
 
 mod flow;
+mod line;
 mod queue;
+mod read;
 mod write;
 
 pub use flow::{FlowRead, MockFlow};
+pub use read::{BufRead, Item};
 pub use write::BufWrite;
