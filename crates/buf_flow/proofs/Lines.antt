@@ -1,7 +1,8 @@
 -- The first LF of bytes, and a line without its CR.
-use Rattle.std.proofs.Common.{◌≡◌, ◌≢◌, ℕ, zero, suc, ◌+◌, ◌-◌, ◌<◌, ◌≤◌, List, [], ◌∷◌, length, take, drop, get_or, Bool, true, false, Option, Some, None, refl, ap, sym, ◌∙◌, arith, true≢false}
+use Rattle.std.proofs.Common.{◌≡◌, ◌≢◌, ℕ, zero, suc, ◌+◌, ◌<◌, ◌≤◌, List, [], ◌∷◌, length, take, get_or, Bool, true, false, Some, None, refl, ap, sym, ◌∙◌, arith, true≢false}
 use Rattle.std.proofs.lemmas.Grind.{common_steps}
 use Rattle.std.proofs.lemmas.List.{take_all, length-take-le, get_or-take}
+use Rattle.std.proofs.lemmas.List.Quantifiers.{position-Some}
 use Rattle.std.proofs.lemmas.List.Sums.{position_or_len_is, fails_before_first}
 use Rattle.std.specs.Prelude.{◌==◌, nat_lt, if◌then◌else◌, position}
 use Rattle.std.specs.List.{position_or_len}
@@ -71,3 +72,15 @@ searched bytes count within none place less is =
     let fails : is_line_feed (get_or front place 0) ≡ false = fails_before_first is_line_feed front place 0 (omega (arith, size, past)) in
     let same : get_or front place 0 ≡ 10 = get_or-take count bytes place 0 less ∙ is in
     absurd (true≢false (sym (ap is_line_feed same) ∙ fails))
+
+-- before the first LF of a front no byte is LF
+pub searched_before : (bytes : List ℕ) (count place : ℕ) → count ≤ length bytes → Some place ≡ position (λ b. b == 10) (take count bytes) → (place < count) × HasNoLineFeed place bytes
+searched_before bytes count place within found =
+    let first = position-Some is_line_feed (take count bytes) place 0 (sym found) in
+    let size : length (take count bytes) ≡ count = length-take-le count bytes within in
+    let less : place < count = omega (arith, size, first.0) in (
+      less,
+      λ k before is.
+          let same : get_or (take count bytes) k 0 ≡ 10 = get_or-take count bytes k 0 (omega (arith, less, before)) ∙ is in
+          absurd (true≢false (sym (ap is_line_feed same) ∙ first.2 k before)),
+    )

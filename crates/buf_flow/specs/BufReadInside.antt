@@ -1,5 +1,5 @@
 -- A reader in code as a reader of the definitions, and what is known of the bytes that were searched for LF.
-use Rattle.std.specs.Prelude.{ℕ, ◌+◌, ◌≤◌, false, length}
+use Rattle.std.specs.Prelude.{◌+◌, ◌≤◌, false, length}
 use Rattle.row_model.specs.Readers.{Reader}
 use Rattle.buf_flow.specs.LineFeeds.{HasNoLineFeed}
 use Rattle.buf_flow.specs.declared.read.BufRead.TheInside.{Inside}

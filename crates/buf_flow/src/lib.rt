@@ -6,11 +6,16 @@
 #![tactic(auto)]
 
 mod flow;
+mod laws;
 mod line;
 mod queue;
 mod read;
 mod write;
 
 pub use flow::{FlowRead, MockFlow};
+pub use laws::{cuts_alike, decided_stays, histories_alike};
 pub use read::{BufRead, Item};
 pub use write::BufWrite;
+
+#[cfg(test)]
+mod tests;

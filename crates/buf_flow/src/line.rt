@@ -1,5 +1,5 @@
 //! Where a line ends, and what of it is given.
-ghost use Rattle.std.specs.Prelude.{◌≡◌, ◌==◌, ◌≤◌, length, take, position};
+ghost use Rattle.std.specs.Prelude.{◌≡◌, ◌==◌, ◌≤◌, length, take, position, IfSome};
 ghost use Rattle.row_model.specs.BytesToCome.{without_cr};
 ghost use Rattle.buf_flow.specs.LineFeeds.{HasNoLineFeed};
 
@@ -7,7 +7,8 @@ ghost use Rattle.buf_flow.specs.LineFeeds.{HasNoLineFeed};
 pub(crate) fn line_feed(bytes: &[u8], from: usize) -> Option<usize>
     requires within { from ≤ length bytes.now }
     requires searched { HasNoLineFeed from bytes.now }
-    ensures { result ≡ position (λ b. b == 10) bytes.now }
+    ensures first { result ≡ position (λ b. b == 10) bytes.now }
+    ensures behind { IfSome result (λ place. from ≤ place) }
 {
     for place in from..bytes.len() {
         if bytes[place] == b'\n' {
@@ -26,5 +27,9 @@ pub(crate) fn line_len(line: &[u8]) -> usize
         return 0;
     }
     let last = line.len() - 1;
-    if line[last] == b'\r' { last } else { line.len() }
+    if line[last] == b'\r' {
+        last
+    } else {
+        line.len()
+    }
 }

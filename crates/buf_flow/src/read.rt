@@ -95,6 +95,7 @@ impl BufRead {
         match line_feed(&bytes[..end], self.searched) {
             Some(place) => {
                 let count = line_len(&bytes[..place]);
+                self.searched = place;
                 self.give(count, place + 1)
             }
             None => {
@@ -122,11 +123,11 @@ impl BufRead {
     pub fn take_all(&mut self) -> Item
         ensures { Answers TakeAll result self.old self.new }
     {
-        let count = self.bytes.as_slice().len();
-        if (self.most as usize) < count {
+        let all = self.bytes.as_slice().len();
+        if (self.most as usize) < all {
             Item::BufferLimit
         } else if self.over {
-            self.give(count, count)
+            self.give(all, all)
         } else {
             Item::NeedMore
         }
@@ -147,12 +148,10 @@ impl BufRead {
     pub fn at_end(&self) -> Item
         ensures { Answers AtEnd result self.now self.now }
     {
-        if !self.bytes.as_slice().is_empty() {
-            Item::Flag(false)
-        } else if self.over {
-            Item::Flag(true)
-        } else {
-            Item::NeedMore
+        match (self.bytes.as_slice().is_empty(), self.over) {
+            (false, _) => Item::Flag(false),
+            (true, true) => Item::Flag(true),
+            (true, false) => Item::NeedMore,
         }
     }
 
