@@ -1,0 +1,21 @@
+//! Flows of bytes: a scripted flow, what is read of a flow, and what is to be written to one.
+//!
+//! A [`MockFlow`] gives its steps one after another. A [`BufRead`] holds what was read of a flow and isn't
+//! given yet, and answers by these bytes alone, however they were cut into pieces. A [`BufWrite`] holds what
+//! was put and isn't written yet.
+#![tactic(auto)]
+
+mod flow;
+mod laws;
+mod line;
+mod queue;
+mod read;
+mod write;
+
+pub use flow::{FlowRead, MockFlow};
+pub use laws::{cuts_alike, decided_stays, histories_alike};
+pub use read::{BufRead, Item};
+pub use write::BufWrite;
+
+#[cfg(test)]
+mod tests;
