@@ -1,0 +1,3 @@
+pub mod Strikes
+pub mod Offs
+pub mod Items

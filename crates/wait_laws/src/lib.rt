@@ -1,0 +1,30 @@
+//! Laws of calls, strikes and items in runs, each as the contract of an empty public function.
+//!
+//! A law is stated in `specs/`, and what proves it stands in the file of `proofs/` that its answer names.
+#![tactic(auto)]
+
+ghost use Rattle.wait_laws.specs.Items.{CallsArePlayed, ItemsInOrderInRuns, ObjectsArePlayed};
+ghost use Rattle.wait_laws.specs.Offs.{OffLeavesAll};
+ghost use Rattle.wait_laws.specs.Strikes.{LostStrikesTakeNone, StrikesTakeOne};
+
+/// After a strike that won, each shared object is the one before less the waiter that was struck; stamps and posts are as
+/// before, and nothing was sent. After one that was lost, all that is shared is as before.
+pub fn strikes_take_one()
+    ensures won { StrikesTakeOne }
+    ensures lost { LostStrikesTakeNone }
+{}
+
+/// A call that answers `Off` has done nothing: each shared object is as before, nothing was sent to any domain, no wait
+/// was decided, and the caller's context is off.
+pub fn off_leaves_all()
+    ensures { OffLeavesAll }
+{}
+
+/// In a legal run of several domains each shared object is what its declaration comes to by the calls and won strikes of
+/// the lines, in their order, and each call has answered and sent what came of it there. So of each declared stream:
+/// the items that were accepted, in order, are those that were taken, in order, and then those that it holds at the end.
+pub fn items_in_order_in_runs()
+    ensures objects { ObjectsArePlayed }
+    ensures calls { CallsArePlayed }
+    ensures items { ItemsInOrderInRuns }
+{}
