@@ -1,0 +1,6 @@
+mod Steps
+mod Lists
+mod Names
+mod Expressions
+mod Captures
+mod Statements
