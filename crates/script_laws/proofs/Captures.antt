@@ -1,7 +1,8 @@
 -- What a job takes with it, and what it knows.
-use Rattle.std.proofs.Common.{◌≡◌, ℕ, zero, suc, ◌+◌, ◌<◌, ◌≤◌, List, [], ◌∷◌, ◌++◌, length, Some, refl, sym, ap, subst, length-append, arith}
+use Rattle.std.proofs.Common.{◌≡◌, ℕ, zero, suc, ◌+◌, ◌<◌, ◌≤◌, List, [], ◌∷◌, ◌++◌, length, Some, refl, sym, subst, ◌∙◌, length-append, arith}
 use Rattle.std.specs.Prelude.{map, slice_get, nat_lt, is_none, All}
 use Rattle.std.specs.List.{AllByRecursion as Each}
+use Rattle.std.proofs.lemmas.List.{length-map}
 use Rattle.std.proofs.lemmas.List.Elements.{All-from_recursion}
 use Rattle.std.proofs.lemmas.Bool.{ltb-true}
 use Rattle.script_model.specs.Captures.{captured_behind, captured, slots_of, numbered_from, job_scope}
@@ -48,16 +49,8 @@ slots_are known taken are = All-from_recursion (Has known VariableKind) (slots_o
     by [] are = tt
     by (it ∷ others) are = (are.0.1, by others are.1)
 
-pub slot_count : (taken : List Named) → length (slots_of taken) ≡ length taken
-slot_count [] = refl
-slot_count (it ∷ others) = ap suc (slot_count others)
-
 abbrev variables : List Named → List Kind
 variables taken = map (λ slot. VariableKind) (slots_of taken)
-
-variable_count : (taken : List Named) → length (variables taken) ≡ length taken
-variable_count [] = refl
-variable_count (it ∷ others) = ap suc (variable_count others)
 
 variable_at : (taken : List Named) (i : ℕ) → i < length taken → slice_get (variables taken) i ≡ Some VariableKind
 variable_at [] i less = absurd (omega (arith, less))
@@ -76,5 +69,5 @@ pub job_fits : (known : Known) (scope : Scope) → Fits known scope → (taken :
 job_fits known scope fits taken are = record {
   names = stand_in_job known (in_job (slots_of taken) known) 0 taken are (λ i low high. variable_at taken i (omega (arith, high)));
   declared = fits.declared;
-  next = variable_count taken;
+  next = length-map (slots_of taken) (λ slot. VariableKind) ∙ length-map taken (λ it. it.number);
 }

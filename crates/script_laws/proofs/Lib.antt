@@ -4,3 +4,5 @@ mod Names
 mod Expressions
 mod Captures
 mod Statements
+mod Declarations
+mod Scripts

@@ -3,6 +3,7 @@ use Rattle.std.proofs.Common.{◌≡◌, ℕ, ◌+◌, ◌≤◌, Bool, true, fa
 use Rattle.std.specs.Prelude.{nat_le, pos, negsuc}
 use Rattle.std.specs.Str.{bytes_eq}
 use Rattle.std.proofs.lemmas.Bool.{leb-true, leb-false, and_parts, false≢true}
+use Rattle.std.proofs.lemmas.List.{length-map}
 use Rattle.script_model.specs.Captures.{slots_of, job_scope}
 use Rattle.script_model.specs.Expressions.{expression}
 use Rattle.script_model.specs.Faults.{Shape, Size}
@@ -17,7 +18,7 @@ use Rattle.script_model.specs.Syntax.{Statement, Let, LetForm, If, Give, Raise, 
 use Rattle.script_model.specs.Trees.{Tree, Word, Number, Branch, Trees, Nil, And, place_of}
 use Rattle.script_laws.specs.Numbers.{HasFittingNumbers, HaveFittingNumbers}
 use Rattle.script_laws.specs.Soundness.{Known, with_slot, in_job, IsIn, block_count, HasItsBranches, behind, IsSoundStatement, IsSoundBlock, AreSoundStatements, AreSoundBlocks}
-use Rattle.script_laws.proofs.Captures.{captured_are, slots_are, slot_count, job_fits}
+use Rattle.script_laws.proofs.Captures.{captured_are, slots_are, job_fits}
 use Rattle.script_laws.proofs.Expressions.{expression_is_sound, operands_are_sound}
 use Rattle.script_laws.proofs.Lists.{found_passes}
 use Rattle.script_laws.proofs.Names.{Fits, bring_fits, used_has, directory_is_sound}
@@ -79,7 +80,7 @@ IsStated known it = IsSoundStatement known it.0 × Fits (behind it.0 known) it.1
 abbrev IsBound : Known → Statement → Type 0
 IsBound known it = IsSoundStatement known it × (behind it known ≡ with_slot VariableKind known)
 
-block_is_sound : (known : Known) (these : Reads Statements) → Gives (AreSoundStatements known) these → Gives (IsSoundBlock known) (block_of these)
+pub block_is_sound : (known : Known) (these : Reads Statements) → Gives (AreSoundStatements known) these → Gives (IsSoundBlock known) (block_of these)
 unfolding IsSoundBlock
 block_is_sound known these are = past next_node λ number. going_on are λ read sound. given (Begins number read) sound
 
@@ -232,7 +233,7 @@ mutual
       let own = in_job (slots_of taken) known in
       going_on (block_is_sound own (statements (job_scope scope taken) items) (statements_are_sound own (job_scope scope taken) (job_fits known scope fits taken are.0) items n.1.1.1.1)) λ b sound.
       given (Submit executor weight (slots_of taken) b, scope)
-      ((has, is_in, (let count = slot_count taken in let few = are.1 in omega (arith, count, few)), slots_are known taken are.0, sound), fits)
+      ((has, is_in, (let count = length-map taken (λ it. it.number) in let few = are.1 in omega (arith, count, few)), slots_are known taken are.0, sound), fits)
   form_is_sound known scope fits last at SleepHead listed (And word (And time Nil)) n =
       going_on (expression_is_sound known scope fits time n.1.0) λ e sound. given (Sleep e, scope) (sound, fits)
   form_is_sound known scope fits last at BufReadHead listed (And word (And name (And flow_name (And limit_number items)))) n =
