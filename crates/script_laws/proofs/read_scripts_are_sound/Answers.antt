@@ -1,0 +1,8 @@
+use Rattle.script_laws.proofs.Scripts.{input_is_sound, script_is_sound}
+use Rattle.script_laws.proofs.read_scripts_are_sound.Goals as goal
+
+pub returns-clause-trees : goal.returns-clause-trees
+returns-clause-trees c = λ tree script numbers e. script_is_sound tree numbers script e
+
+pub returns-clause-inputs : goal.returns-clause-inputs
+returns-clause-inputs c = input_is_sound
