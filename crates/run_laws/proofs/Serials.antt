@@ -12,8 +12,8 @@ use Rattle.machine_model.specs.Domain.{Fiber, Owed, Strike, Wake, Start}
 use Rattle.machine_model.specs.Mock.{Mock, Moved, opening, most_jobs, move, moves}
 use Rattle.machine_model.specs.Shared.{declared_row}
 use Rattle.machine_model.specs.Trace.{last_after, run}
-use Rattle.run_laws.specs.Exceptions.{InStanding, InData, IsIn, InFiber, InSwitch, InGroup, InObject, InPost}
-use Rattle.run_laws.specs.Serials.{SerialsRise, IsRaisedBetween, RaisesAreNumbered, HasOwnNumbers, RaisesAreApart}
+use Rattle.run_laws.specs.Exceptions.{InStanding, InData, IsIn, InFiber, InSwitch, InGroup, InObject, InPost, IsTold, InItsCall, InItsReply}
+use Rattle.run_laws.specs.Serials.{SerialsRise, IsRaisedBetween, RaisesAreNumbered, LinesTellNumbered, HasOwnNumbers, RaisesAreApart}
 use Rattle.run_laws.proofs.Beginnings.{from}
 use Rattle.run_laws.proofs.Places.{each_to_all, AllMessage}
 use Rattle.run_laws.proofs.Settling.{Born, With, born_rises}
@@ -98,8 +98,9 @@ module _ (kinds : ℕ → Bool) (script : Script) (m : Mock) (moved : Moved) (ra
   in_next : (x : Member) → IsIn x moved.next → With (With (λ x. IsIn x m) raises.first) raises.second x
   in_next x i = each_in (With (With (λ x. IsIn x m) raises.first) raises.second) kinds moved.next.local.serial moved.next raises.stands raises.shares x i
 
-  pub next_is_numbered : (x : Member) → IsIn x moved.next → IsIn x m ⊎ IsRaisedBetween m moved.next x
-  next_is_numbered x i = by (old_or_new (With (λ x. IsIn x m) raises.first) raises.middle moved.next.local.serial raises.second raises.second_range x (in_next x i))
+  -- what stood there or was raised in one of the two parts
+  old_or_raised : (x : Member) → With (With (λ x. IsIn x m) raises.first) raises.second x → IsIn x m ⊎ IsRaisedBetween m moved.next x
+  old_or_raised x it = by (old_or_new (With (λ x. IsIn x m) raises.first) raises.middle moved.next.local.serial raises.second raises.second_range x it)
     where
       by_first : IsIn x m ⊎ ((m.local.serial ≤ x.serial) × (x.serial < raises.middle)) → IsIn x m ⊎ IsRaisedBetween m moved.next x
       by_first (inl old) = inl old
@@ -108,6 +109,13 @@ module _ (kinds : ℕ → Bool) (script : Script) (m : Mock) (moved : Moved) (ra
       by : With (λ x. IsIn x m) raises.first x ⊎ ((raises.middle ≤ x.serial) × (x.serial < moved.next.local.serial)) → IsIn x m ⊎ IsRaisedBetween m moved.next x
       by (inl it) = by_first (old_or_new (λ x. IsIn x m) m.local.serial raises.middle raises.first raises.first_range x it)
       by (inr new) = inr (record { from = omega (arith, new.0, born_rises m.local.serial raises.middle raises.first raises.first_range); below = new.1 })
+
+  pub next_is_numbered : (x : Member) → IsIn x moved.next → IsIn x m ⊎ IsRaisedBetween m moved.next x
+  next_is_numbered x i = old_or_raised x (in_next x i)
+
+  pub line_is_numbered : (x : Member) → IsTold x moved.line → IsIn x m ⊎ IsRaisedBetween m moved.next x
+  line_is_numbered x (InItsCall i) = old_or_raised x (raises.call x i)
+  line_is_numbered x (InItsReply i) = old_or_raised x (raises.reply x i)
 
   pub next_fits : Fits kinds m → Fits kinds moved.next
   next_fits fits = record { duties = raises.stands.1; same = (λ n. raises.same_kinds n ∙ fits.same n) }
@@ -175,6 +183,10 @@ pub raises_are_numbered : RaisesAreNumbered
 raises_are_numbered script n moved is x i =
     let m : Mock = (run script n).last in
     next_is_numbered (kinds_at_first script) script m moved (raises_of_fitting (kinds_at_first script) script m (runs_are_numbered script n).0 moved is) x i
+
+pub lines_tell_numbered : LinesTellNumbered
+lines_tell_numbered script n moved is x i =
+    let m : Mock = (run script n).last in line_is_numbered (kinds_at_first script) script m moved (raises_of_fitting (kinds_at_first script) script m (runs_are_numbered script n).0 moved is) x i
 
 pub raises_are_apart : RaisesAreApart
 raises_are_apart script n = (runs_are_numbered script n).1

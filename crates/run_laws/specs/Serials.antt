@@ -4,7 +4,7 @@ use Rattle.eio_value.specs.declared.plain.Member.{Member}
 use Rattle.script_model.specs.Scripts.{Script}
 use Rattle.machine_model.specs.Mock.{Mock, Moved, move}
 use Rattle.machine_model.specs.Trace.{run}
-use Rattle.run_laws.specs.Exceptions.{IsIn}
+use Rattle.run_laws.specs.Exceptions.{IsIn, IsTold}
 
 -- the counter never falls
 abbrev pub SerialsRise : Type 0
@@ -19,6 +19,12 @@ pub record IsRaisedBetween (before after : Mock) (x : Member) : Type 0 where
 abbrev pub RaisesAreNumbered : Type 0
 RaisesAreNumbered =
     (script : Script) (n : ℕ) (moved : Moved) → move script (run script n).last ≡ Some moved → (x : Member) → IsIn x moved.next
+    → IsIn x (run script n).last ⊎ IsRaisedBetween (run script n).last moved.next x
+
+-- so was one that the line of the move tells
+abbrev pub LinesTellNumbered : Type 0
+LinesTellNumbered =
+    (script : Script) (n : ℕ) (moved : Moved) → move script (run script n).last ≡ Some moved → (x : Member) → IsTold x moved.line
     → IsIn x (run script n).last ⊎ IsRaisedBetween (run script n).last moved.next x
 
 -- all exceptions of a state have numbers below the counter, and no two of them one number
