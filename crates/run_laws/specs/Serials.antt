@@ -1,5 +1,5 @@
 -- The numbers of raises. A domain gives each raise the next number of its counter.
-use Rattle.std.specs.Prelude.{◌≡◌, ℕ, ◌≤◌, ◌<◌, ◌⊎◌, Some}
+use Rattle.std.specs.Prelude.{◌≡◌, ℕ, ◌+◌, ◌≤◌, ◌<◌, ◌⊎◌, Some}
 use Rattle.eio_value.specs.declared.plain.Member.{Member}
 use Rattle.script_model.specs.Scripts.{Script}
 use Rattle.machine_model.specs.Mock.{Mock, Moved, move}
@@ -34,3 +34,8 @@ pub record HasOwnNumbers (m : Mock) : Type 0 where
 
 abbrev pub RaisesAreApart : Type 0
 RaisesAreApart = (script : Script) (n : ℕ) → HasOwnNumbers (run script n).last
+
+-- a number names one exception in the whole run: also in two states of which one comes later
+abbrev pub NumbersAreNotReused : Type 0
+NumbersAreNotReused =
+    (script : Script) (n k : ℕ) (x y : Member) → IsIn x (run script n).last → IsIn y (run script (n + k)).last → x.serial ≡ y.serial → x ≡ y
