@@ -47,9 +47,11 @@ shares_more P born shared h = (
 
 -- the rest of a move, once it is prepared: the domain is l, and what is outside is still as in m
 module _ (P : Member → Type 0) (kinds : ℕ → Bool) (script : Script) (m : Mock) (l : DomainState) where
+  -- an object that is meant to be no mutex is none, unless P holds of everything anyway
   abbrev pub Agrees : Type 0
   Agrees = (object : ℕ) → kinds object ≡ false → (kinds_of m.shared.rows object ≡ false) ⊎ ((x : Member) → P x)
 
+  -- at most one exception is raised, and P holds of all others that stand there then or that the line tells
   pub record Ends (moved : Moved) : Type 0 where
     pub born : Option Member
     pub range : Born l.serial moved.next.local.serial born
@@ -347,6 +349,7 @@ module _ (P : Member → Type 0) (kinds : ℕ → Bool) (script : Script) (m : M
 -- ## Both parts
 
 module _ (P : Member → Type 0) (kinds : ℕ → Bool) (script : Script) (m : Mock) where
+  -- at most two exceptions are raised, one after the other, and P holds of all others that stand there then or that the line tells
   pub record Raises (moved : Moved) : Type 0 where
     pub first : Option Member
     pub second : Option Member
