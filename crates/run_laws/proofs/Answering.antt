@@ -24,6 +24,7 @@ use Rattle.row_model.specs.Contexts.{Context, root}
 use Rattle.row_model.specs.Timers.{remove}
 use Rattle.script_model.specs.Scripts.{Script}
 use Rattle.script_model.specs.Syntax as syntax
+use Rattle.script_model.specs.Syntax.{ObjectCall, ObjectCallWith}
 use Rattle.step_model.specs.Asks as ask
 use Rattle.step_model.specs.Asks.{Ask, passing}
 use Rattle.step_model.specs.Evaluation.{number_in}
@@ -43,12 +44,12 @@ use Rattle.machine_model.specs.ObjectMoves as on_objects
 use Rattle.machine_model.specs.MockMoves as on_mocks
 use Rattle.machine_model.specs.DutyMoves as on_duties
 use Rattle.run_laws.specs.Exceptions.{InMessage}
-use Rattle.run_laws.proofs.Places.{AllRaised, AllOutcome, AllCall, AllResult, none, all_one, all_cancelled}
+use Rattle.run_laws.proofs.Places.{AllDid, AllReply, AllRaised, AllOutcome, AllCall, AllResult, none, all_one, all_cancelled}
 use Rattle.run_laws.proofs.Settling.{With}
 use Rattle.run_laws.proofs.Rows.{AllAnswer}
 use Rattle.run_laws.proofs.Outside.{ExtraIs}
 use Rattle.run_laws.proofs.Standings.{DutyFits, Stands, head_stands, back_stands, parked_stands, made_stands, ends_stands, woken_if_stands, all_single}
-use Rattle.run_laws.proofs.Raising.{Kept, quietly, is_born, new_stands, does_kept, answers_kept, goes_off_kept, enters_stands, in_new_kept}
+use Rattle.run_laws.proofs.Raising.{Kept, telling, more, is_born, new_stands, does_kept, answers_kept, goes_off_kept, enters_stands, in_new_kept}
 
 -- the calls that may raise what was raised before
 abbrev pub awaits : Ask → Bool
@@ -81,17 +82,17 @@ module _ (P : Member → Type 0) (kinds : ℕ → Bool) (s : ℕ) where
   goes_on_is None given all = none P
   goes_on_is (Some it) given all = all
 
-  goes_on_kept : (call : Ask) (it : Did) (reply : Said2) (given : Value) (g : ℕ) (l : DomainState) → AllCall P call → Stands P kinds s l
+  goes_on_kept : (call : Ask) (it : Did) (reply : Said2) → AllDid P it → AllReply P reply → (given : Value) (g : ℕ) (l : DomainState) → AllCall P call → Stands P kinds s l
       → Kept P kinds s (steps.told g it reply (to_head (GoesOn (on_objects.goes_on_with (passing call) given)) g l))
-  goes_on_kept call it reply given g l all h = quietly P kinds s _ (head_stands P kinds s (GoesOn (on_objects.goes_on_with (passing call) given)) g l (goes_on_is (passing call) given (passing_is call all)) h)
+  goes_on_kept call it reply d r given g l all h = telling P kinds s _ d r (head_stands P kinds s (GoesOn (on_objects.goes_on_with (passing call) given)) g l (goes_on_is (passing call) given (passing_is call all)) h)
 
-  answered_with_kept : (call : Ask) (it : Did) (reply : Said2) (given : Value) (g : ℕ) (l : DomainState) → AllCall P call → Stands P kinds s l → Kept P kinds s (on_objects.answered_with call it reply given g l)
-  answered_with_kept (ask.End result) it reply given g l all h = quietly P kinds s _ (ends_stands P kinds s result g l all h)
-  answered_with_kept call it reply given g l all h = goes_on_kept call it reply given g l all h
+  answered_with_kept : (call : Ask) (it : Did) (reply : Said2) → AllDid P it → AllReply P reply → (given : Value) (g : ℕ) (l : DomainState) → AllCall P call → Stands P kinds s l → Kept P kinds s (on_objects.answered_with call it reply given g l)
+  answered_with_kept (ask.End result) it reply d r given g l all h = telling P kinds s _ d r (ends_stands P kinds s result g l all h)
+  answered_with_kept call it reply d r given g l all h = goes_on_kept call it reply d r given g l all h
 
-  nothing_done_kept : (call : Ask) (it : Did) (g : ℕ) (l : DomainState) → AllCall P call → Stands P kinds s l → Kept P kinds s (on_objects.nothing_done call it g l)
-  nothing_done_kept (ask.Submit executor weight given block) it g l all h = quietly P kinds s _ h
-  nothing_done_kept call it g l all h = answered_with_kept call it said.Nothing value.Unit g l all h
+  nothing_done_kept : (call : Ask) (it : Did) → AllDid P it → (g : ℕ) (l : DomainState) → AllCall P call → Stands P kinds s l → Kept P kinds s (on_objects.nothing_done call it g l)
+  nothing_done_kept (ask.Submit executor weight given block) it d g l all h = telling P kinds s _ (none P) (none P) h
+  nothing_done_kept call it d g l all h = answered_with_kept call it said.Nothing d (none P) value.Unit g l all h
 
   -- ## Obligations
 
@@ -127,36 +128,71 @@ module _ (P : Member → Type 0) (kinds : ℕ → Bool) (s : ℕ) where
   owing_wait_stands (ask.Submit executor weight given block) maker l h = owes_stands maker (Start executor) l tt h
   owing_wait_stands call maker l h = h
 
+  -- ## What the line tells of the call
+
+  end_is : (role : Role) → AllDid P (on_objects.did_end role)
+  end_is (OfJob executor number) = none P
+  end_is role = none P
+
+  call_is : (it : ObjectCall) (object : ℕ) → AllDid P (on_objects.did_call it object)
+  call_is syntax.Take object = none P
+  call_is syntax.TakeNonblocking object = none P
+  call_is syntax.Length object = none P
+  call_is syntax.Await object = none P
+  call_is syntax.Acquire object = none P
+  call_is syntax.Release object = none P
+  call_is syntax.Lock object = none P
+  call_is syntax.TryLock object = none P
+  call_is syntax.Unlock object = none P
+
+  call_with_is : (it : ObjectCallWith) (object : ℕ) (operand : Value) → AllDid P (on_objects.did_call_with it object operand)
+  call_with_is syntax.Add object operand = none P
+  call_with_is syntax.Resolve object operand = none P
+  call_with_is syntax.TryResolve object operand = none P
+
+  pub ask_is : (call : Ask) (role : Role) → AllCall P call → AllDid P (on_objects.did_ask call role)
+  ask_is (ask.OnObject it object) role all = call_is it object
+  ask_is (ask.OnObjectWith it object operand) role all = call_with_is it object operand
+  ask_is (ask.Use pool) role all = none P
+  ask_is (ask.Submit executor weight given block) role all = none P
+  ask_is (ask.UnlockEnd mutex it) role all = none P
+  ask_is (ask.PoisonEnd mutex raised) role all = none P
+  ask_is (ask.PutEnd pool resource it) role all = none P
+  ask_is (ask.ResolveEnd promise it) role all = all
+  ask_is other role all = end_is role
+
   -- ## Answers of objects
 
   -- what is raised under the counter's number
-  raised_new : (what : Plain) (raised : Raised) (it : Did) (g : ℕ) (l : DomainState) → AllRaised (With P (Some (member what l))) raised → Stands P kinds s l → Kept P kinds s (steps.raises_again it raised g (counted l))
-  raised_new what raised it g l all h = record {
+  raised_new : (what : Plain) (raised : Raised) (it : Did) → AllDid P it → (g : ℕ) (l : DomainState) → AllRaised (With P (Some (member what l))) raised → Stands P kinds s l → Kept P kinds s (steps.raises_again it raised g (counted l))
+  raised_new what raised it d g l all h = record {
     born = Some (member what l);
     to = s + 1;
     range = is_born P kinds s what l h;
     stands = head_stands (With P (Some (member what l))) kinds (s + 1) (GoesOn (outcome.Err raised)) g (counted l) all (new_stands P kinds s what l h);
+    call = (λ x i. more P (Some (member what l)) x (d x i));
+    reply = all;
   }
 
-  raised_kept : (call : Ask) (what : Plain) (raised : Raised) (it : Did) (g : ℕ) (l : DomainState) → (awaits call ≡ true → AllRaised P raised) → (awaits call ≡ false → AllRaised (With P (Some (member what l))) raised) → Stands P kinds s l
+  raised_kept : (call : Ask) (what : Plain) (raised : Raised) (it : Did) → AllDid P it → (g : ℕ) (l : DomainState) → (awaits call ≡ true → AllRaised P raised) → (awaits call ≡ false → AllRaised (With P (Some (member what l))) raised) → Stands P kinds s l
       → Kept P kinds s (steps.raises_again it raised g (on_objects.counted_for call l))
-  raised_kept (ask.OnObject syntax.Await object) what raised it g l old new h = answers_kept P kinds s it (outcome.Err raised) g l (old refl) h
-  raised_kept call what raised it g l old new h = raised_new what raised it g l (new refl) h
+  raised_kept (ask.OnObject syntax.Await object) what raised it d g l old new h = answers_kept P kinds s it d (outcome.Err raised) g l (old refl) h
+  raised_kept call what raised it d g l old new h = raised_new what raised it d g l (new refl) h
 
   abbrev pub IfDone : Answer → Type 0 → Type 0
   IfDone (answer.Done given) it = it
   IfDone other it = Unit {0}
 
-  pub answered_kept : (call : Ask) (role : Role) (it : Did) (asked : Asked) (what : Plain) (given : Answer) (g : ℕ) (l : DomainState) → AllCall P call
+  pub answered_kept : (call : Ask) (role : Role) (it : Did) → AllDid P it → (asked : Asked) (what : Plain) (given : Answer) (g : ℕ) (l : DomainState) → AllCall P call
       → (awaits call ≡ true → AllAnswer P P P given) → (awaits call ≡ false → AllAnswer P (With P (Some (member what l))) P given) → IfDone given (ResolvesNoMutex (resolves call)) → Stands P kinds s l
       → Kept P kinds s (on_objects.answered_by call role it asked given g l)
-  answered_kept call role it asked what (answer.Done given) g l all old new fits h = answered_with_kept call it (said.Done given) given g (on_objects.owing call role given g l) all (owing_stands call role given g l fits h)
-  answered_kept call role it asked what answer.Waits g l all old new fits h = quietly P kinds s _ (parked_stands P kinds s (OnObject asked.who) g (on_objects.owing_wait call g l) (none P) (owing_wait_stands call g l h))
-  answered_kept call role it asked what answer.Off g l all old new fits h = goes_off_kept P kinds s it g l h
-  answered_kept call role it asked what answer.Nothing g l all old new fits h = nothing_done_kept call it g l all h
-  answered_kept call role it asked what (answer.Raised raised) g l all old new fits h = raised_kept call what raised it g l old new h
-  answered_kept call role it asked what (answer.Woke who) g l all old new fits h = does_kept P kinds s it g l h
-  answered_kept call role it asked what (answer.Started domain number) g l all old new fits h = does_kept P kinds s it g l h
+  answered_kept call role it d asked what (answer.Done given) g l all old new fits h = answered_with_kept call it (said.Done given) d (none P) given g (on_objects.owing call role given g l) all (owing_stands call role given g l fits h)
+  answered_kept call role it d asked what answer.Waits g l all old new fits h = telling P kinds s _ d (none P) (parked_stands P kinds s (OnObject asked.who) g (on_objects.owing_wait call g l) (none P) (owing_wait_stands call g l h))
+  answered_kept call role it d asked what answer.Off g l all old new fits h = goes_off_kept P kinds s it d g l h
+  answered_kept call role it d asked what answer.Nothing g l all old new fits h = nothing_done_kept call it d g l all h
+  answered_kept call role it d asked what (answer.Raised raised) g l all old new fits h = raised_kept call what raised it d g l old new h
+  answered_kept call role it d asked what (answer.Woke who) g l all old new fits h = does_kept P kinds s it d g l h
+  answered_kept call role it d asked what (answer.Started domain number) g l all old new fits h = does_kept P kinds s it d g l h
 
   -- ## Messages
 
@@ -202,7 +238,7 @@ module _ (P : Member → Type 0) (kinds : ℕ → Bool) (s : ℕ) where
       record step { state = to_head (GoesOn (outcome.Ok value.Unit)) new step.state })) h
       (λ c m k.
       let t : DomainState = made c (OfWriter number) (record { work = []; variables = [] }) m in
-      quietly P kinds s _ (head_stands P kinds s (GoesOn (outcome.Ok value.Unit)) (length m.fibers) (on_mocks.goes_into call number it g t).state (none P)
+      telling P kinds s _ (none P) (none P) (head_stands P kinds s (GoesOn (outcome.Ok value.Unit)) (length m.fibers) (on_mocks.goes_into call number it g t).state (none P)
       (into_stands call number g t (made_stands P kinds s c (OfWriter number) (record { work = []; variables = [] }) m k))))
 
   by_passing_kept : (passed : Option Outcome) (given : Value) (it : Said) (g : ℕ) (l : DomainState) → AllResult P passed → Stands P kinds s l
@@ -210,34 +246,34 @@ module _ (P : Member → Type 0) (kinds : ℕ → Bool) (s : ℕ) where
         | Some result ↦ steps.told g (did.Mock it) (said.Done given) (to_head (GoesOn result) g l)
         | None ↦ steps.answers (did.Mock it) (outcome.Ok given) g l
       ])
-  by_passing_kept None given it g l all h = answers_kept P kinds s (did.Mock it) (outcome.Ok given) g l (none P) h
-  by_passing_kept (Some result) given it g l all h = quietly P kinds s _ (head_stands P kinds s (GoesOn result) g l all h)
+  by_passing_kept None given it g l all h = answers_kept P kinds s (did.Mock it) (none P) (outcome.Ok given) g l (none P) h
+  by_passing_kept (Some result) given it g l all h = telling P kinds s _ (none P) (none P) (head_stands P kinds s (GoesOn result) g l all h)
 
   done_kept : (call : Ask) (given : Value) (it : Said) (g : ℕ) (l : DomainState) → AllCall P call → Stands P kinds s l → Kept P kinds s (on_mocks.done_by call given it g l)
-  done_kept (ask.OpenReader flow limit block) given it g l all h = quietly P kinds s _ (into_stands (ask.OpenReader flow limit block) (number_in given) g l h)
-  done_kept (ask.OpenDirectory place path block) given it g l all h = quietly P kinds s _ (into_stands (ask.OpenDirectory place path block) (number_in given) g l h)
+  done_kept (ask.OpenReader flow limit block) given it g l all h = telling P kinds s _ (none P) (none P) (into_stands (ask.OpenReader flow limit block) (number_in given) g l h)
+  done_kept (ask.OpenDirectory place path block) given it g l all h = telling P kinds s _ (none P) (none P) (into_stands (ask.OpenDirectory place path block) (number_in given) g l h)
   done_kept (ask.OpenWriter flow block) given it g l all h = opens_writer_kept (ask.OpenWriter flow block) (number_in given) it g l h
-  done_kept (ask.PutText writer text) given it g l all h = answers_kept P kinds s (did.Mock it) (outcome.Ok given) g (on_mocks.wakes_by_bytes writer (text_at l.texts text) l) (none P) (wakes_by_bytes_stands writer (text_at l.texts text) l h)
+  done_kept (ask.PutText writer text) given it g l all h = answers_kept P kinds s (did.Mock it) (none P) (outcome.Ok given) g (on_mocks.wakes_by_bytes writer (text_at l.texts text) l) (none P) (wakes_by_bytes_stands writer (text_at l.texts text) l h)
   done_kept call given it g l all h = by_passing_kept (passing call) given it g l (passing_is call all) h
 
   waits_by_kept : (call : Ask) (g : ℕ) (l : DomainState) → AllCall P call → Stands P kinds s l → Kept P kinds s (on_mocks.waits_by call g l)
-  waits_by_kept (ask.ShutWriter writer result) g l all h = quietly P kinds s _ (parked_stands P kinds s (ForOthers (ask.ShutWriter writer result)) g (on_mocks.wakes_copier writer l) all (wakes_copier_stands writer l h))
-  waits_by_kept call g l all h = quietly P kinds s _ (parked_stands P kinds s (ForOthers call) g l all h)
+  waits_by_kept (ask.ShutWriter writer result) g l all h = telling P kinds s _ (none P) (none P) (parked_stands P kinds s (ForOthers (ask.ShutWriter writer result)) g (on_mocks.wakes_copier writer l) all (wakes_copier_stands writer l h))
+  waits_by_kept call g l all h = telling P kinds s _ (none P) (none P) (parked_stands P kinds s (ForOthers call) g l all h)
 
   pub mock_answered_kept : (call : Ask) (given : Extra) (g : ℕ) (l : DomainState) → AllCall P call → ExtraIs l.serial given → Stands P kinds s l → Kept P kinds s (on_mocks.mock_answered call given g l)
   mock_answered_kept call (extra.Done given it) g l all is h = done_kept call given it g l all h
-  mock_answered_kept call (extra.More it) g l all is h = quietly P kinds s _ (head_stands P kinds s (CallsAgain call) g l all h)
-  mock_answered_kept call extra.Back g l all is h = quietly P kinds s _ (back_stands P kinds s (CallsAgain call) g l all h)
+  mock_answered_kept call (extra.More it) g l all is h = telling P kinds s _ (none P) (none P) (head_stands P kinds s (CallsAgain call) g l all h)
+  mock_answered_kept call extra.Back g l all is h = telling P kinds s _ (none P) (none P) (back_stands P kinds s (CallsAgain call) g l all h)
   mock_answered_kept call extra.Waits g l all is h = waits_by_kept call g l all h
   mock_answered_kept call (extra.Raised raised it) g l all is h =
-      raised_new is.what raised (did.Mock it) g l (subst (AllRaised (With P (Some (member is.what l)))) (sym is.alone) (all_one (With P (Some (member is.what l))) (member is.what l) (inr refl))) h
+      raised_new is.what raised (did.Mock it) (none P) g l (subst (AllRaised (With P (Some (member is.what l)))) (sym is.alone) (all_one (With P (Some (member is.what l))) (member is.what l) (inr refl))) h
 
   pub carried_kept : (writer : ℕ) (given : Extra) (g : ℕ) (l : DomainState) → Stands P kinds s l → Kept P kinds s (on_mocks.carried_by writer given g l)
-  carried_kept writer (extra.More it) g l h = quietly P kinds s _ (head_stands P kinds s (GoesOn (outcome.Ok value.Unit)) g l (none P) h)
+  carried_kept writer (extra.More it) g l h = telling P kinds s _ (none P) (none P) (head_stands P kinds s (GoesOn (outcome.Ok value.Unit)) g l (none P) h)
   carried_kept writer (extra.Done given it) g l h =
       let t : DomainState = on_ends.ends (outcome.Ok value.Unit) g l in
-      quietly P kinds s _ (woken_if_stands P kinds s (on_mocks.shutter writer t.fibers) t (ends_stands P kinds s (outcome.Ok value.Unit) g l (none P) h))
-  carried_kept writer other g l h = quietly P kinds s _ (parked_stands P kinds s Resting g l (none P) h)
+      telling P kinds s _ (none P) (none P) (woken_if_stands P kinds s (on_mocks.shutter writer t.fibers) t (ends_stands P kinds s (outcome.Ok value.Unit) g l (none P) h))
+  carried_kept writer other g l h = telling P kinds s _ (none P) (none P) (parked_stands P kinds s Resting g l (none P) h)
 
   -- ## Strikes
 
@@ -249,8 +285,10 @@ module _ (P : Member → Type 0) (kinds : ℕ → Bool) (s : ℕ) where
         to = s + 1;
         range = is_born P kinds s what l h;
         stands = back_stands (With P (Some (member what l))) kinds (s + 1) (GoesOn (outcome.Err (Cancelled (member what l)))) g (counted l) (all_cancelled (With P (Some (member what l))) (member what l) (inr refl)) (new_stands P kinds s what l h);
+        call = none (With P (Some (member what l)));
+        reply = none (With P (Some (member what l)));
       }
-  strike_kept duty g false l h = quietly P kinds s _ h
+  strike_kept duty g false l h = telling P kinds s _ (none P) (none P) h
 
   pub own_strike_kept : (duty : Duty) (g : ℕ) (standing : Standing) (l : DomainState) → Stands P kinds s l → Kept P kinds s (on_duties.own_strike duty g standing l)
   own_strike_kept duty g (Parked Asleep) l h = strike_kept duty g true (record l { timers = remove g l.timers }) h

@@ -14,7 +14,9 @@ use Rattle.row_model.specs.Errors as collected
 use Rattle.row_model.specs.Data.{Data}
 use Rattle.step_model.specs.Asks.{Ask}
 use Rattle.machine_model.specs.Domain.{Next, Wait, Standing}
-use Rattle.run_laws.specs.Exceptions.{InRaised, InOutcome, InErrors, InResult, InCall, InNext, InWait, InStanding, InData, InMessage}
+use Rattle.trace_out.specs.declared.line.Did.{Did}
+use Rattle.trace_out.specs.declared.line.Said2.{Said2}
+use Rattle.run_laws.specs.Exceptions.{InRaised, InOutcome, InErrors, InResult, InCall, InNext, InWait, InStanding, InData, InMessage, InDid, InReply}
 
 module _ {X : Type 0} (P : X → Type 0) where
   -- what stands under a number
@@ -72,6 +74,12 @@ module _ (P : Member → Type 0) where
 
   abbrev pub AllMessage : Message → Type 0
   AllMessage it = (x : Member) → InMessage x it → P x
+
+  abbrev pub AllDid : Did → Type 0
+  AllDid it = (x : Member) → InDid x it → P x
+
+  abbrev pub AllReply : Said2 → Type 0
+  AllReply reply = (x : Member) → InReply x reply → P x
 
   -- a place without exceptions
   abbrev pub none : (x : Member) → ⊥ → P x

@@ -29,13 +29,13 @@ use Rattle.machine_model.specs.Preparing as doing
 use Rattle.machine_model.specs.Preparing.{Doing, Prepared, prepared}
 use Rattle.machine_model.specs.Shared.{SharedState, Asked, row_at, stepped, mine_of, after_call, strike_wins, after_strike}
 use Rattle.machine_model.specs.Steps.{Step, member, counted}
-use Rattle.run_laws.proofs.Places.{all_but, AllCall, AllMessage}
+use Rattle.run_laws.proofs.Places.{none, AllDid, AllReply, all_but, AllCall, AllMessage}
 use Rattle.run_laws.proofs.Settling.{Born, With}
 use Rattle.run_laws.proofs.Rows.{is_mutex, is_await, is_wake, raises_of, raise_of, InBrought, AllAnswer, Finds, StepIs, called_is}
 use Rattle.run_laws.proofs.Outside.{outside_is}
 use Rattle.run_laws.proofs.Standings.{DutyFits, Stands, all_single}
-use Rattle.run_laws.proofs.Raising.{Kept, quietly, more, new_stands, is_born, own_call_kept, tick_kept}
-use Rattle.run_laws.proofs.Answering.{awaits, resolves, ResolvesNoMutex, IfDone, answered_kept, AllMine, received_stands, mock_answered_kept, carried_kept, strike_kept, own_strike_kept}
+use Rattle.run_laws.proofs.Raising.{Kept, telling, more, new_stands, is_born, own_call_kept, tick_kept}
+use Rattle.run_laws.proofs.Answering.{ask_is, awaits, resolves, ResolvesNoMutex, IfDone, answered_kept, AllMine, received_stands, mock_answered_kept, carried_kept, strike_kept, own_strike_kept}
 use Rattle.run_laws.proofs.Preparing.{Prepares, DoingIs, prepared_prepares}
 use Rattle.run_laws.proofs.Sharing.{kinds_of, set_kinds, strike_kinds, ResolvesAt, OnThis, AskedBy, AsksNothing, AsksObject, AsksOutside, fiber_asks, resolves_no_mutex, is_woken, wakes_or_is_silent, RowIs, Shares, row_is, Sends, mine_is, call_shares, strike_shares}
 
@@ -47,14 +47,18 @@ shares_more P born shared h = (
 
 -- the rest of a move, once it is prepared: the domain is l, and what is outside is still as in m
 module _ (P : Member → Type 0) (kinds : ℕ → Bool) (script : Script) (m : Mock) (l : DomainState) where
+  -- an object that is meant to be no mutex is none, unless P holds of everything anyway
   abbrev pub Agrees : Type 0
   Agrees = (object : ℕ) → kinds object ≡ false → (kinds_of m.shared.rows object ≡ false) ⊎ ((x : Member) → P x)
 
+  -- at most one exception is raised, and P holds of all others that stand there then or that the line tells
   pub record Ends (moved : Moved) : Type 0 where
     pub born : Option Member
     pub range : Born l.serial moved.next.local.serial born
     pub stands : Stands (With P born) kinds moved.next.local.serial moved.next.local
     pub shares : Shares (With P born) moved.next.shared
+    pub call : AllDid (With P born) moved.line.did
+    pub reply : AllReply (With P born) moved.line.reply
     pub same_kinds : (n : ℕ) → kinds_of moved.next.shared.rows n ≡ kinds_of m.shared.rows n
 
   ends_with : (stamp : ℕ) (came : Came) (step : Step) (kept : Kept P kinds l.serial step) → Shares (With P kept.born) came.shared → ((n : ℕ) → kinds_of came.shared.rows n ≡ kinds_of m.shared.rows n)
@@ -64,6 +68,8 @@ module _ (P : Member → Type 0) (kinds : ℕ → Bool) (script : Script) (m : M
     range = subst (λ t. Born l.serial t kept.born) (sym kept.stands.0) kept.range;
     stands = (refl, kept.stands.1, kept.stands.2, kept.stands.3, kept.stands.4);
     shares = shares;
+    call = kept.call;
+    reply = kept.reply;
     same_kinds = same;
   }
 
@@ -74,7 +80,7 @@ module _ (P : Member → Type 0) (kinds : ℕ → Bool) (script : Script) (m : M
 
   abbrev with_message_kept : (mine : Option Message) (step : Step) (kept : Kept P kinds l.serial step) → AllMine (With P kept.born) kinds kept.to mine → Kept P kinds l.serial (with_message script mine step)
   with_message_kept mine step kept all =
-      record { born = kept.born; to = kept.to; range = kept.range; stands = received_stands (With P kept.born) kinds kept.to script mine step.state all kept.stands }
+      record { born = kept.born; to = kept.to; range = kept.range; stands = received_stands (With P kept.born) kinds kept.to script mine step.state all kept.stands; call = kept.call; reply = kept.reply }
 
   -- ## Calls on objects
 
@@ -163,7 +169,7 @@ module _ (P : Member → Type 0) (kinds : ℕ → Bool) (script : Script) (m : M
       → Ends (moved_by m stamp (came_of stamp (asked_of g object it)) (stepped_by script (record { doing = doing.Calls g asked; state = l }) (came_of stamp (asked_of g object it)).label m.local))
   fiber_call_ends stamp asked g object it on are all h shares =
       let kept : Kept P kinds l.serial (object_answered asked (asked_of g object it) (step_at g object it).answer g l) =
-      answered_kept P kinds l.serial asked (fiber_at l.fibers g).role (did_ask asked (fiber_at l.fibers g).role) (asked_of g object it) (raises_of (row_at m.shared.rows object).values) (step_at g object it).answer g l all
+      answered_kept P kinds l.serial asked (fiber_at l.fibers g).role (did_ask asked (fiber_at l.fibers g).role) (ask_is P kinds l.serial asked (fiber_at l.fibers g).role all) (asked_of g object it) (raises_of (row_at m.shared.rows object).values) (step_at g object it).answer g l all
       (all_answered asked g object it on all shares) (λ e. new_answered asked g object it on all shares) (done_fits asked g object it on are (step_at g object it).answer refl) h
       in
       let is : StepIs P (λ x. Unit {0}) P (is_mutex (row_at m.shared.rows object).values) (step_at g object it) = silent_step asked g object it on all shares in
@@ -210,8 +216,8 @@ module _ (P : Member → Type 0) (kinds : ℕ → Bool) (script : Script) (m : M
       no_mutex (inr all) mutex = all (raise_of l.serial (Mutex hold.Poisoned))
 
       told : (given : Answer) → Kept P kinds l.serial (on_duties.wake_told (record { maker = maker; owed = Wake object false }) object false given l)
-      told (answer.Woke who) = quietly P kinds l.serial _ (stays_stands P l.serial (record { maker = maker; owed = Wake object false }) l fits h)
-      told other = quietly P kinds l.serial _ h
+      told (answer.Woke who) = telling P kinds l.serial _ (none P) (none P) (stays_stands P l.serial (record { maker = maker; owed = Wake object false }) l fits h)
+      told other = telling P kinds l.serial _ (none P) (none P) h
 
   -- of those that wait for a poisoned mutex, of whom each has a raise of its own
 
@@ -237,20 +243,22 @@ module _ (P : Member → Type 0) (kinds : ℕ → Bool) (script : Script) (m : M
         to = l.serial + 1;
         range = is_born P kinds l.serial Poisoned l h;
         stands = stays_stands (With P (Some x)) (l.serial + 1) (record { maker = maker; owed = Wake object true }) (counted l) tt (new_stands P kinds l.serial Poisoned l h);
+        call = none (With P (Some x));
+        reply = none (With P (Some x));
       })
       is.values is.same_kind is.sent shares
 
-  nobody_woken : (stamp maker object : ℕ) (given : Answer) → Stands P kinds l.serial (mutex_told maker object given).state → (wake_step maker object).sent ≡ None → Shares P m.shared
+  nobody_woken : (stamp maker object : ℕ) (given : Answer) → AllDid P (mutex_told maker object given).did → AllReply P (mutex_told maker object given).reply → Stands P kinds l.serial (mutex_told maker object given).state → (wake_step maker object).sent ≡ None → Shares P m.shared
       → Ends (moved_by m stamp (came_of stamp (asked_of maker object (call.NextWake object))) (with_message script (mine_at stamp maker object (call.NextWake object)) (mutex_told maker object given)))
-  nobody_woken stamp maker object given h silent shares =
+  nobody_woken stamp maker object given told reply h silent shares =
       let is : StepIs P (λ x. Unit {0}) (With P (Some (member Poisoned l))) (is_mutex (row_at m.shared.rows object).values) (wake_step maker object) = wake_is maker object shares in
-      call_ends stamp (asked_of maker object (call.NextWake object)) (mutex_told maker object given) (record { born = None; to = l.serial; range = omega arith; stands = h })
+      call_ends stamp (asked_of maker object (call.NextWake object)) (mutex_told maker object given) (record { born = None; to = l.serial; range = omega arith; stands = h; call = told; reply = reply })
       is.values is.same_kind (silent_sends P (wake_step maker object).sent silent) shares
 
   mutex_wake_ends : (stamp maker object : ℕ) → Stands P kinds l.serial l → Shares P m.shared → (given : Answer) → (is_woken given ≡ false → (wake_step maker object).sent ≡ None)
       → Ends (moved_by m stamp (came_of stamp (asked_of maker object (call.NextWake object))) (with_message script (mine_at stamp maker object (call.NextWake object)) (mutex_told maker object given)))
   mutex_wake_ends stamp maker object h shares (answer.Woke who) silent = somebody_woken stamp maker object who h shares
-  mutex_wake_ends stamp maker object h shares given silent = nobody_woken stamp maker object given h (silent refl) shares
+  mutex_wake_ends stamp maker object h shares given silent = nobody_woken stamp maker object given (none P) (none P) h (silent refl) shares
 
   start_ends : (stamp maker executor : ℕ) → Stands P kinds l.serial l → Shares P m.shared → (given : Answer)
       → Ends (moved_by m stamp (came_of stamp (asked_of maker executor (call.NextStart executor)))
@@ -265,8 +273,8 @@ module _ (P : Member → Type 0) (kinds : ℕ → Bool) (script : Script) (m : M
       (sends_more kept.born (step_at maker executor (call.NextStart executor)).sent is.sent) shares
     where
       told : (given : Answer) → Kept P kinds l.serial (on_duties.start_told (record { maker = maker; owed = Start executor }) executor given l)
-      told (answer.Started domain number) = quietly P kinds l.serial _ (stays_stands P l.serial (record { maker = maker; owed = Start executor }) l tt h)
-      told other = quietly P kinds l.serial _ h
+      told (answer.Started domain number) = telling P kinds l.serial _ (none P) (none P) (stays_stands P l.serial (record { maker = maker; owed = Start executor }) l tt h)
+      told other = telling P kinds l.serial _ (none P) (none P) h
 
   -- ## The whole move
 
@@ -314,7 +322,7 @@ module _ (P : Member → Type 0) (kinds : ℕ → Bool) (script : Script) (m : M
   owed_ends maker (Start executor) fits agrees h shares = by (asking.is_full_for_one l)
     where
       by : (full : Bool) → EndsIf (moved_if (record { doing = doing.Owes (record { maker = maker; owed = Start executor }); state = l }) (elim full [ true ↦ Own | false ↦ asking.calls l maker executor (call.NextStart executor) ]))
-      by true = ends_alone (m.local.stamp + 1) own_came (on_duties.own_duty (record { maker = maker; owed = Start executor }) l) refl (quietly P kinds l.serial (on_duties.own_duty (record { maker = maker; owed = Start executor }) l) h) shares
+      by true = ends_alone (m.local.stamp + 1) own_came (on_duties.own_duty (record { maker = maker; owed = Start executor }) l) refl (telling P kinds l.serial (on_duties.own_duty (record { maker = maker; owed = Start executor }) l) (none P) (none P) h) shares
       by false = start_ends (m.local.stamp + 1) maker executor h shares (step_at maker executor (call.NextStart executor)).answer
 
   fiber_ends : (asked : Ask) (g : ℕ) → AllCall P asked → KindsAre → Stands P kinds l.serial l → Shares P m.shared → EndsIf (move_by script m (record { doing = doing.Calls g asked; state = l }))
@@ -341,6 +349,7 @@ module _ (P : Member → Type 0) (kinds : ℕ → Bool) (script : Script) (m : M
 -- ## Both parts
 
 module _ (P : Member → Type 0) (kinds : ℕ → Bool) (script : Script) (m : Mock) where
+  -- at most two exceptions are raised, one after the other, and P holds of all others that stand there then or that the line tells
   pub record Raises (moved : Moved) : Type 0 where
     pub first : Option Member
     pub second : Option Member
@@ -349,6 +358,8 @@ module _ (P : Member → Type 0) (kinds : ℕ → Bool) (script : Script) (m : M
     pub second_range : Born middle moved.next.local.serial second
     pub stands : Stands (With (With P first) second) kinds moved.next.local.serial moved.next.local
     pub shares : Shares (With (With P first) second) moved.next.shared
+    pub call : AllDid (With (With P first) second) moved.line.did
+    pub reply : AllReply (With (With P first) second) moved.line.reply
     pub same_kinds : (n : ℕ) → kinds_of moved.next.shared.rows n ≡ kinds_of m.shared.rows n
 
   abbrev RaisesIf : Option Moved → Type 0
@@ -372,6 +383,8 @@ module _ (P : Member → Type 0) (kinds : ℕ → Bool) (script : Script) (m : M
     second_range = ends.range;
     stands = ends.stands;
     shares = ends.shares;
+    call = ends.call;
+    reply = ends.reply;
     same_kinds = ends.same_kinds;
   }
 

@@ -1,5 +1,5 @@
 -- The numbers of raises in runs. All that a move raises has numbers of its own, so no two raises of a run share one.
-use Rattle.std.proofs.Common.{◌≡◌, ℕ, zero, suc, ◌≤◌, ◌<◌, ◌⊎◌, inl, inr, Bool, true, false, Option, Some, None, refl, sym, ap, ◌∙◌, subst, arith}
+use Rattle.std.proofs.Common.{◌≡◌, ℕ, zero, suc, ◌≤◌, ◌<◌, ◌⊎◌, inl, inr, Bool, true, false, Option, Some, None, refl, sym, ap, ◌∙◌, subst, arith, List, [], ◌∷◌, ◌++◌, ◌+◌}
 use Rattle.std.specs.Prelude.{get_or}
 use Rattle.std.specs.List.{All}
 use Rattle.std.proofs.lemmas.List.Elements.{All-map, All-contains}
@@ -12,9 +12,9 @@ use Rattle.machine_model.specs.Domain.{Fiber, Owed, Strike, Wake, Start}
 use Rattle.machine_model.specs.Mock.{Mock, Moved, opening, most_jobs, move, moves}
 use Rattle.machine_model.specs.Shared.{declared_row}
 use Rattle.machine_model.specs.Trace.{last_after, run}
-use Rattle.run_laws.specs.Exceptions.{InStanding, InData, IsIn, InFiber, InSwitch, InGroup, InObject, InPost}
-use Rattle.run_laws.specs.Serials.{SerialsRise, IsRaisedBetween, RaisesAreNumbered, HasOwnNumbers, RaisesAreApart}
-use Rattle.run_laws.proofs.Beginnings.{from}
+use Rattle.run_laws.specs.Exceptions.{InStanding, InData, IsIn, InFiber, InSwitch, InGroup, InObject, InPost, IsTold, InItsCall, InItsReply}
+use Rattle.run_laws.specs.Serials.{SerialsRise, IsRaisedBetween, NumbersAreNotReused, RaisesAreNumbered, LinesTellNumbered, HasOwnNumbers, RaisesAreApart}
+use Rattle.run_laws.proofs.Beginnings.{from, moves_on}
 use Rattle.run_laws.proofs.Places.{each_to_all, AllMessage}
 use Rattle.run_laws.proofs.Settling.{Born, With, born_rises}
 use Rattle.run_laws.proofs.Standings.{DutyFits, FiberIs, SwitchIs, GroupIs, Stands}
@@ -98,8 +98,9 @@ module _ (kinds : ℕ → Bool) (script : Script) (m : Mock) (moved : Moved) (ra
   in_next : (x : Member) → IsIn x moved.next → With (With (λ x. IsIn x m) raises.first) raises.second x
   in_next x i = each_in (With (With (λ x. IsIn x m) raises.first) raises.second) kinds moved.next.local.serial moved.next raises.stands raises.shares x i
 
-  pub next_is_numbered : (x : Member) → IsIn x moved.next → IsIn x m ⊎ IsRaisedBetween m moved.next x
-  next_is_numbered x i = by (old_or_new (With (λ x. IsIn x m) raises.first) raises.middle moved.next.local.serial raises.second raises.second_range x (in_next x i))
+  -- what stood there or was raised in one of the two parts
+  old_or_raised : (x : Member) → With (With (λ x. IsIn x m) raises.first) raises.second x → IsIn x m ⊎ IsRaisedBetween m moved.next x
+  old_or_raised x it = by (old_or_new (With (λ x. IsIn x m) raises.first) raises.middle moved.next.local.serial raises.second raises.second_range x it)
     where
       by_first : IsIn x m ⊎ ((m.local.serial ≤ x.serial) × (x.serial < raises.middle)) → IsIn x m ⊎ IsRaisedBetween m moved.next x
       by_first (inl old) = inl old
@@ -108,6 +109,13 @@ module _ (kinds : ℕ → Bool) (script : Script) (m : Mock) (moved : Moved) (ra
       by : With (λ x. IsIn x m) raises.first x ⊎ ((raises.middle ≤ x.serial) × (x.serial < moved.next.local.serial)) → IsIn x m ⊎ IsRaisedBetween m moved.next x
       by (inl it) = by_first (old_or_new (λ x. IsIn x m) m.local.serial raises.middle raises.first raises.first_range x it)
       by (inr new) = inr (record { from = omega (arith, new.0, born_rises m.local.serial raises.middle raises.first raises.first_range); below = new.1 })
+
+  pub next_is_numbered : (x : Member) → IsIn x moved.next → IsIn x m ⊎ IsRaisedBetween m moved.next x
+  next_is_numbered x i = old_or_raised x (in_next x i)
+
+  pub line_is_numbered : (x : Member) → IsTold x moved.line → IsIn x m ⊎ IsRaisedBetween m moved.next x
+  line_is_numbered x (InItsCall i) = old_or_raised x (raises.call x i)
+  line_is_numbered x (InItsReply i) = old_or_raised x (raises.reply x i)
 
   pub next_fits : Fits kinds m → Fits kinds moved.next
   next_fits fits = record { duties = raises.stands.1; same = (λ n. raises.same_kinds n ∙ fits.same n) }
@@ -176,5 +184,54 @@ raises_are_numbered script n moved is x i =
     let m : Mock = (run script n).last in
     next_is_numbered (kinds_at_first script) script m moved (raises_of_fitting (kinds_at_first script) script m (runs_are_numbered script n).0 moved is) x i
 
+pub lines_tell_numbered : LinesTellNumbered
+lines_tell_numbered script n moved is x i =
+    let m : Mock = (run script n).last in line_is_numbered (kinds_at_first script) script m moved (raises_of_fitting (kinds_at_first script) script m (runs_are_numbered script n).0 moved is) x i
+
 pub raises_are_apart : RaisesAreApart
 raises_are_apart script n = (runs_are_numbered script n).1
+
+-- ## Numbers aren't reused
+
+-- from one state of a run on: the counter doesn't fall, and what has an older number stood in that state
+pub record Continues (kinds : ℕ → Bool) (before after : Mock) : Type 0 where
+  pub fits : Fits kinds after
+  pub rises : before.local.serial ≤ after.local.serial
+  pub older : (y : Member) → IsIn y after → y.serial < before.local.serial → IsIn y before
+
+module _ (kinds : ℕ → Bool) (script : Script) (before : Mock) where
+  older_in_next : (m : Mock) (moved : Moved) (y : Member) → Continues kinds before m → IsIn y m ⊎ IsRaisedBetween m moved.next y → y.serial < before.local.serial → IsIn y before
+  older_in_next m moved y so (inl old) below = so.older y old below
+  older_in_next m moved y so (inr new) below = absurd (omega (arith, below, so.rises, new.from))
+
+  continues : (m : Mock) (moved : Moved) → Continues kinds before m → move script m ≡ Some moved → Continues kinds before moved.next
+  continues m moved so is =
+      let raises : Raises (λ x. IsIn x m) kinds script m moved = raises_of_fitting kinds script m so.fits moved is in
+      let rises : m.local.serial ≤ moved.next.local.serial = serials_rise script m moved is in
+      record {
+        fits = next_fits kinds script m moved raises so.fits;
+        rises = omega (arith, so.rises, rises);
+        older = (λ y i below. older_in_next m moved y so (next_is_numbered kinds script m moved raises y i) below);
+      }
+
+last-append : (m : Mock) (front more : List Moved) → last_after m (front ++ more) ≡ last_after (last_after m front) more
+last-append m [] more = refl
+last-append m (moved ∷ front) more = last-append moved.next front more
+
+-- the last state of a run of n + k moves is that of k more moves
+later_state : (script : Script) (n k : ℕ) → (run script (n + k)).last ≡ last_after (run script n).last (moves script k (run script n).last)
+unfolding run
+later_state script n k =
+    ap (last_after (opening script)) (moves_on script n k (opening script)) ∙ last-append (opening script) (moves script n (opening script)) (moves script k (last_after (opening script) (moves script n (opening script))))
+
+pub numbers_are_not_reused : NumbersAreNotReused
+numbers_are_not_reused script n k x y i j e =
+    let before : Mock = (run script n).last in
+    let now : Numbered script before = runs_are_numbered script n in
+    let so : Continues (kinds_at_first script) before (last_after before (moves script k before)) =
+    runs_keep (Continues (kinds_at_first script) before) script (continues (kinds_at_first script) script before) k before
+    (record { fits = now.0; rises = omega arith; older = (λ y i below. i) })
+    in
+    let later : IsIn y (last_after before (moves script k before)) = subst (λ m. IsIn y m) (later_state script n k) j in
+    let below : y.serial < before.local.serial = omega (arith, e, now.1.below x i) in
+    now.1.own x y i (so.older y later below) e

@@ -31,6 +31,7 @@ use Rattle.run_laws.proofs.Places.{at_is, each_to_all, only_one, AllRaised, AllO
 pub all_single : {X : Type 0} (P : X → Type 0) (x : X) → P x → All P (x ∷ [])
 all_single P x it = each_to_all P (x ∷ []) (λ y i. subst P (sym (only_one x y i)) it)
 
+-- P of all exceptions, which objects are mutexes, and the counter
 module _ (P : Member → Type 0) (kinds : ℕ → Bool) (s : ℕ) where
   abbrev pub OwedFits : Owed → Type 0
   OwedFits (Wake object false) = kinds object ≡ false
@@ -48,6 +49,7 @@ module _ (P : Member → Type 0) (kinds : ℕ → Bool) (s : ℕ) where
   abbrev pub GroupIs : Group → Type 0
   GroupIs group = AllErrors P group.errors
 
+  -- the counter is s, the wakes that are owed fit, and P holds of all exceptions that stand in the domain
   abbrev pub Stands : DomainState → Type 0
   Stands l = (l.serial ≡ s) × All DutyFits l.duties × All FiberIs l.fibers × All SwitchIs l.switches × All GroupIs l.groups
 

@@ -1,4 +1,4 @@
--- Which exceptions stand in a state: each is one raise, with its number.
+-- Which exceptions stand in a state, and which a line tells: each is one raise, with its number.
 -- They stand in how fibers go on, in calls that wait or are made again, in what fibers ended with, in the errors of switches and groups, in promises, and in
 -- messages for other domains. The work of a fiber, the values of variables and who waits for an object hold none.
 use Rattle.std.specs.Prelude.{ℕ, Option, Some, None}
@@ -16,6 +16,11 @@ use Rattle.row_model.specs.Row.{Row}
 use Rattle.row_model.specs.Switches.{Switch}
 use Rattle.step_model.specs.Asks as ask
 use Rattle.step_model.specs.Asks.{Ask}
+use Rattle.trace_out.specs.declared.line.Did.{Did}
+use Rattle.trace_out.specs.declared.line.Did.TheVariants as did
+use Rattle.trace_out.specs.declared.line.Line.{Line}
+use Rattle.trace_out.specs.declared.line.Said2.{Said2}
+use Rattle.trace_out.specs.declared.line.Said2.TheVariants as said
 use Rattle.machine_model.specs.Domain.{Next, GoesOn, CallsAgain, Wait, ForOthers, Standing, Ready, Parked, Ended, Fiber}
 use Rattle.machine_model.specs.Mock.{Mock}
 
@@ -71,6 +76,21 @@ InData x values = ⊥
 abbrev pub InMessage : Member → Message → Type 0
 InMessage x (message.Resume who it stamp) = InOutcome x it
 InMessage x (message.Start job number stamp) = ⊥
+
+-- ## In a line
+
+-- what a line tells of the call
+abbrev pub InDid : Member → Did → Type 0
+InDid x (did.Resolve promise it) = InOutcome x it
+InDid x it = ⊥
+
+abbrev pub InReply : Member → Said2 → Type 0
+InReply x (said.Raised raised) = InRaised x raised
+InReply x reply = ⊥
+
+pub data IsTold (x : Member) (line : Line) : Type 0 where
+  InItsCall : InDid x line.did → IsTold x line
+  InItsReply : InReply x line.reply → IsTold x line
 
 -- ## In a state
 

@@ -6,7 +6,7 @@
 ghost use Rattle.run_laws.specs.Beginnings.{MovesBeginAlike, StatesBeginAlike, TracesBeginAlike};
 ghost use Rattle.run_laws.specs.Meanings.{RunsGoByMeaning};
 ghost use Rattle.run_laws.specs.Moves.{MovesWhereSomethingIsLeft, ShortRunsAreOver};
-ghost use Rattle.run_laws.specs.Serials.{RaisesAreApart, RaisesAreNumbered, SerialsRise};
+ghost use Rattle.run_laws.specs.Serials.{LinesTellNumbered, NumbersAreNotReused, RaisesAreApart, RaisesAreNumbered, SerialsRise};
 
 /// The moves of a run of at most n + k moves begin with those of the run of at most n moves; so do its states, and so
 /// does its trace.
@@ -29,11 +29,13 @@ pub fn runs_go_by_meaning()
     ensures { RunsGoByMeaning }
 {}
 
-/// The counter of raises never falls in a move. In a run each exception that stands in a state stood in the state
-/// before, or has a number that the counter gave in the move between them. So in each state of a run all exceptions have
-/// numbers below the counter, and two with one number are one raise.
+/// The counter of raises never falls in a move. In a run each exception that stands in a state, or that the line of the
+/// move tells, stood in the state before, or has a number that the counter gave in that move. In each state of a run
+/// all exceptions have numbers below the counter, and two with one number are the same; so are two of different states.
 pub fn serials_rise()
     ensures rise { SerialsRise }
     ensures numbered { RaisesAreNumbered }
+    ensures told { LinesTellNumbered }
     ensures apart { RaisesAreApart }
+    ensures once { NumbersAreNotReused }
 {}

@@ -1,4 +1,4 @@
-use Rattle.run_laws.proofs.Serials.{serials_rise, raises_are_numbered, raises_are_apart}
+use Rattle.run_laws.proofs.Serials.{serials_rise, raises_are_numbered, lines_tell_numbered, numbers_are_not_reused, raises_are_apart}
 use Rattle.run_laws.proofs.serials_rise.Goals as goal
 
 pub returns-clause-rise : goal.returns-clause-rise
@@ -9,3 +9,9 @@ returns-clause-numbered c = raises_are_numbered
 
 pub returns-clause-apart : goal.returns-clause-apart
 returns-clause-apart c = raises_are_apart
+
+pub returns-clause-told : goal.returns-clause-told
+returns-clause-told c = lines_tell_numbered
+
+pub returns-clause-once : goal.returns-clause-once
+returns-clause-once c = numbers_are_not_reused
