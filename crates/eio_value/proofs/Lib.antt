@@ -1,2 +1,3 @@
+pub mod JoiningLemmas
 mod Places
 mod Rows
