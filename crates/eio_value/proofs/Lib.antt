@@ -1,3 +1,4 @@
+mod Interning
 pub mod JoiningLemmas
 mod Places
 mod Rows

@@ -23,6 +23,7 @@ mod mock_call;
 mod operands;
 mod plain;
 mod raised;
+mod texts;
 mod value;
 
 pub use bytes::Bytes;
@@ -37,6 +38,7 @@ pub use operands::Operands;
 pub use plain::{Member, Misuse, PathFault, Plain};
 pub use raised::{Outcome, Raised};
 use std::alloc::{AllocError, AllocFailed};
+pub use texts::Texts;
 pub use value::{TextId, Value};
 
 /// Memory was refused.
