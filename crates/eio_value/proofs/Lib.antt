@@ -1,3 +1,4 @@
+pub mod Fronts
 mod Interning
 pub mod JoiningLemmas
 mod Places

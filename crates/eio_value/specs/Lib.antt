@@ -1,3 +1,4 @@
+pub mod Appending
 pub mod Directory
 pub mod DirectoryCode
 pub mod EntriesFall

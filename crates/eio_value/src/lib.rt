@@ -15,6 +15,7 @@
 mod bytes;
 mod call;
 mod entry;
+mod escapes;
 mod flow_step;
 mod joining;
 mod members;
@@ -25,6 +26,7 @@ mod plain;
 mod raised;
 mod texts;
 mod value;
+mod writing;
 
 pub use bytes::Bytes;
 pub use call::{Answer, Answered, Call, Struck, Woken};
@@ -40,6 +42,7 @@ pub use raised::{Outcome, Raised};
 use std::alloc::{AllocError, AllocFailed};
 pub use texts::Texts;
 pub use value::{TextId, Value};
+pub use writing::{quote, show, show_raised};
 
 /// Memory was refused.
 ///

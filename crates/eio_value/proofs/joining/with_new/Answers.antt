@@ -1,4 +1,4 @@
-use Rattle.std.proofs.Common.{ap, sym, ◌∙◌, subst}
+use Rattle.std.proofs.Common.{ap, sym, ◌∙◌}
 use Rattle.eio_value.specs.Several.{first_eight}
 use Rattle.eio_value.proofs.JoiningLemmas.{told, others_before, joined_new, joined_old, with_more}
 use Rattle.eio_value.proofs.joining.with_new.Goals.{then-not-is_among, else-not-is_among}
