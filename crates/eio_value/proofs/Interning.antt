@@ -1,11 +1,15 @@
 -- A table of texts as a row of keys that hold them.
-use Rattle.std.specs.Prelude.{◌≡◌, ℕ, ◌+◌, nat_lt, Bool, false, not, if◌then◌else◌, List, [], ◌∷◌, ◌++◌, length, map, Some, None, position, refl}
-use Rattle.std.specs.List.{list_any, position_or_len}
+use Rattle.std.specs.Prelude.{◌≡◌, ◌≢◌, All, ℕ, ◌+◌, nat_lt, Bool, false, not, if◌then◌else◌, List, [], ◌∷◌, ◌++◌, length, map, Some, None, position, refl}
+use Rattle.std.specs.List.{list_any, position_or_len, IsDistinct}
+use Rattle.std.specs.Cmp.Lexicographic.{bytes_decides}
 use Rattle.std.specs.Str.{bytes_eq}
 use Rattle.std.proofs.Common.{ap, subst, sym, ◌∙◌, cond, arith}
-use Rattle.std.proofs.lemmas.Bool.{le-ltb, or_parts}
+use Rattle.std.proofs.lemmas.Bool.{both_ways, le-ltb, or_parts}
 use Rattle.std.proofs.lemmas.List.{length-map, map_push}
-use Rattle.eio_value.specs.Table.{Interned, text_id, intern}
+use Rattle.std.proofs.lemmas.List.Elements.{All-from_recursion, All-map}
+use Rattle.std.proofs.lemmas.List.Kept.{AllPairs-cons}
+use Rattle.std.proofs.lemmas.Map.Keys.{IsDistinct-head, IsDistinct-tail}
+use Rattle.eio_value.specs.Table.{AreDifferent, Interned, text_id, intern}
 
 abbrev interned : ℕ → List (List ℕ) → Interned
 interned at texts = record { id = text_id at; texts = texts }
@@ -47,3 +51,14 @@ module _ {Key : Type 0} (text_of : Key → List ℕ) (keys : List Key) (bytes : 
       let nowhere : position (bytes_eq bytes) (map text_of keys) ≡ None = position-map (bytes_eq bytes) text_of keys ∙ none_passes test keys (sym none) in
       subst (λ old. interned at (map text_of more) ≡ intern old bytes) are
       ((λ j. interned (last j) (behind j)) ∙ ap (λ o. elim o [ None ↦ interned (length (map text_of keys)) (map text_of keys ++ bytes ∷ []) | Some n ↦ interned n (map text_of keys) ]) (sym nowhere))
+
+-- keys that are different hold different texts
+pub different : {Key : Type 0} (text_of : Key → List ℕ) (keys : List Key) (texts : List (List ℕ)) → map text_of keys ≡ texts → IsDistinct (λ a b. bytes_eq (text_of a) (text_of b)) keys → AreDifferent texts
+different {Key} text_of keys texts are distinct = subst AreDifferent are (held keys distinct)
+  where
+    held : (ks : List Key) → IsDistinct (λ a b. bytes_eq (text_of a) (text_of b)) ks → AreDifferent (map text_of ks)
+    held [] apart = λ i j d less within. absurd (omega arith)
+    held (key ∷ ks) apart =
+        let head : All (λ other. bytes_eq (text_of key) (text_of other) ≡ false) ks = All-from_recursion (λ other. bytes_eq (text_of key) (text_of other) ≡ false) ks (IsDistinct-head (λ a b. bytes_eq (text_of a) (text_of b)) key ks apart) in
+        let others : All (λ other. text_of key ≢ text_of other) ks = λ k d less same. both_ways _ (head k d less) ((bytes_decides _ _).1 same) in
+        AllPairs-cons (λ s t. s ≢ t) (text_of key) (map text_of ks) (All-map (λ t. text_of key ≢ t) text_of ks others) (held ks (IsDistinct-tail (λ a b. bytes_eq (text_of a) (text_of b)) key ks apart))

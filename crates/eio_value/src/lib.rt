@@ -18,12 +18,15 @@ mod entry;
 mod escapes;
 mod flow_step;
 mod joining;
+mod laws;
 mod members;
 mod message;
 mod mock_call;
 mod operands;
 mod plain;
 mod raised;
+#[cfg(test)]
+mod tests;
 mod texts;
 mod value;
 mod writing;
@@ -33,6 +36,10 @@ pub use call::{Answer, Answered, Call, Struck, Woken};
 pub use entry::{Entries, Entry};
 pub use flow_step::FlowStep;
 pub use joining::{combine, reason};
+pub use laws::{
+    cancelled_gives_way, combine_in_any_grouping, combine_is_held, combine_is_in_order,
+    combine_with_itself,
+};
 pub use members::Members;
 pub use message::{Job, Message, Waiter};
 pub use mock_call::{Extra, MockCall, Said};

@@ -4,8 +4,7 @@
 //! a set that keeps the order of insertion, once each: the set finds a text by its hash, and a number
 //! is an index of the set. That no text stands there twice, and that the hashes lead to the texts, are
 //! invariants of the set.
-ghost use Rattle.std.specs.Prelude.{◌≡◌, ◌≢◌, ◌-◌, ◌<◌, ◌^◌, [], length, IfOk, OnErr};
-ghost use Rattle.std.specs.List.{AllPairs};
+ghost use Rattle.std.specs.Prelude.{◌≡◌, ◌-◌, ◌<◌, ◌^◌, [], length, IfOk, OnErr};
 
 use crate::{NoMemory, TextId};
 use indexmap::IndexSet;
@@ -29,7 +28,7 @@ impl Model for Texts {
 }
 
 impl Texts {
-    ghost use Rattle.eio_value.specs.Table.{HasText, text_at, intern};
+    ghost use Rattle.eio_value.specs.Table.{AreDifferent, HasText, text_at, intern};
 
     /// No text.
     pub fn new(alloc: Global) -> Texts
@@ -41,9 +40,10 @@ impl Texts {
         }
     }
 
-    /// How many texts there are.
+    /// How many texts there are. No text stands there twice.
     pub fn len(&self) -> usize
-        ensures { result ≡ length self.now }
+        ensures length { result ≡ length self.now }
+        ensures different { AreDifferent self.now }
     {
         self.texts.len()
     }
