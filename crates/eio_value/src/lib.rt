@@ -5,11 +5,14 @@
 //! another (`Message`). Texts stand in a table and are named by their numbers (`TextId`), so nearly
 //! all of these types are `Copy` and hold no memory.
 //!
+//! What two exceptions become together is `combine`. `Texts` is a table of texts, and `show`, `quote` and
+//! `show_raised` write values and exceptions by it.
+//!
 //! The definitions that speak of them stand in specs/: `Values` (the text of a value), `Exceptions`
 //! (the text of an exception), `Escapes` (how the bytes of a text are written), `Table` (the table of
 //! texts), `Several` (exceptions that were raised together), `Joining` (what two exceptions become
 //! together), `Directory` (what stands in a scripted directory). They are run on worked rows in
-//! proofs/Rows.
+//! proofs/Rows. `JoiningLaws` states what is proved of `combine` for all exceptions (src/laws.rt).
 #![tactic(auto)]
 
 mod bytes;

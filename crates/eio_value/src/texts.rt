@@ -4,7 +4,7 @@
 //! a set that keeps the order of insertion, once each: the set finds a text by its hash, and a number
 //! is an index of the set. That no text stands there twice, and that the hashes lead to the texts, are
 //! invariants of the set.
-ghost use Rattle.std.specs.Prelude.{◌≡◌, ◌-◌, ◌<◌, ◌^◌, [], length, IfOk, OnErr};
+ghost use Rattle.std.specs.Prelude.{◌≡◌, ◌-◌, ◌<◌, ◌^◌, ◌↔◌, [], length, IsTrue, IfOk, OnErr};
 
 use crate::{NoMemory, TextId};
 use indexmap::IndexSet;
@@ -46,6 +46,13 @@ impl Texts {
         ensures different { AreDifferent self.now }
     {
         self.texts.len()
+    }
+
+    /// Whether there is no text.
+    pub fn is_empty(&self) -> bool
+        ensures { IsTrue result ↔ (self.now ≡ []) }
+    {
+        self.texts.is_empty()
     }
 
     /// The number of this text, new or old. A text that is in the table leaves it as it is.
