@@ -1,2 +1,7 @@
+pub mod Fronts
+pub mod Groups
+mod Interning
+pub mod JoiningLemmas
 mod Places
+pub mod RaisedLaws
 mod Rows

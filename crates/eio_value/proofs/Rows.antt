@@ -182,6 +182,23 @@ ninth_left_out : combine (many (map numbered (1 ∷ 2 ∷ 3 ∷ 4 ∷ 5 ∷ 6 �
 unfolding many numbered failure member
 ninth_left_out = refl
 
+-- a cancellation before its own reason: the two groupings differ, and neither keeps all
+one_raise_grouped_left : combine (combine (cancelled 1 (failure 6)) (one 1 (failure 6))) (one 2 (failure 7)) ≡ one 2 (failure 7)
+unfolding one cancelled member
+one_raise_grouped_left = refl
+
+one_raise_grouped_right : combine (cancelled 1 (failure 6)) (combine (one 1 (failure 6)) (one 2 (failure 7))) ≡ many (numbered 1 ∷ numbered 2 ∷ []) false
+unfolding one cancelled many numbered failure member
+one_raise_grouped_right = refl
+
+one_raise_behind_grouped_left : combine (combine (one 2 (failure 7)) (cancelled 1 (failure 6))) (one 1 (failure 6)) ≡ many (numbered 2 ∷ numbered 1 ∷ []) false
+unfolding one cancelled many numbered failure member
+one_raise_behind_grouped_left = refl
+
+one_raise_behind_grouped_right : combine (one 2 (failure 7)) (combine (cancelled 1 (failure 6)) (one 1 (failure 6))) ≡ one 2 (failure 7)
+unfolding one cancelled member
+one_raise_behind_grouped_right = refl
+
 -- The table
 
 intern-old : intern texts (codes "two") ≡ record { id = text_id 1; texts = texts }

@@ -1,5 +1,5 @@
 -- How the bytes of a text are written, inside quotes and without.
-use Rattle.std.specs.Prelude.{ℕ, ◌||◌, ◌==◌, if◌then◌else◌, List, [], ◌∷◌, ◌++◌}
+use Rattle.std.specs.Prelude.{ℕ, Bool, ◌||◌, ◌==◌, if◌then◌else◌, List, [], ◌∷◌, ◌++◌}
 use Rattle.std.specs.List.{flat_map}
 
 -- how a byte is written where no quotes stand around: LF, CR and tab as a backslash and `n`, `r`, `t`; any other byte stands for itself
@@ -15,6 +15,10 @@ shown_byte b =
 -- how a byte is written inside quotes: as without, and a quote and a backslash with a backslash before them
 abbrev pub quoted_byte : ℕ → List ℕ
 quoted_byte b = if b == 34 || b == 92 then 92 ∷ b ∷ [] else shown_byte b
+
+-- the one or the other
+abbrev pub byte_text : Bool → ℕ → List ℕ
+byte_text in_quotes b = if in_quotes then quoted_byte b else shown_byte b
 
 -- a text without quotes
 abbrev pub shown : List ℕ → List ℕ

@@ -1,5 +1,5 @@
 -- The text of an exception, and of what is raised.
-use Rattle.std.specs.Prelude.{ℕ, if◌then◌else◌, List, ◌∷◌, ◌++◌, codes}
+use Rattle.std.specs.Prelude.{⊤, ℕ, if◌then◌else◌, List, ◌∷◌, ◌++◌, All, codes}
 use Rattle.std.specs.List.{join_by}
 use Rattle.eio_value.specs.declared.plain.Misuse.{Misuse}
 use Rattle.eio_value.specs.declared.plain.Misuse.TheVariants.{SwitchFinished, Overflow, NotNumber, NotText, Resolved, NotLocked, Closed, ContextFinished}
@@ -11,7 +11,7 @@ use Rattle.eio_value.specs.declared.plain.Member.{Member}
 use Rattle.eio_value.specs.declared.raised.Raised.{Raised}
 use Rattle.eio_value.specs.declared.raised.Raised.TheVariants.{One, Cancelled, Many}
 use Rattle.eio_value.specs.Escapes.{quoted}
-use Rattle.eio_value.specs.Table.{text_at}
+use Rattle.eio_value.specs.Table.{HasText, text_at}
 use Rattle.eio_value.specs.Several.{first_what}
 
 -- what a misuse is called
@@ -67,3 +67,15 @@ reason (Many several) = first_what several
 abbrev pub bound_text : List (List ℕ) → Raised → List ℕ
 bound_text texts (Many several) = codes "Multiple [" ++ (plain_text texts (first_what several) ++ codes "; ...]")
 bound_text texts raised = raised_text texts raised
+
+-- the table has the text that this exception holds, where it holds one
+abbrev pub HasTextsOfPlain : List (List ℕ) → Plain → Type 0
+HasTextsOfPlain texts (Failure id) = HasText texts id
+HasTextsOfPlain texts (Path fault id) = HasText texts id
+HasTextsOfPlain texts what = ⊤
+
+-- the table has the texts of all exceptions that are raised
+abbrev pub HasTextsOfRaised : List (List ℕ) → Raised → Type 0
+HasTextsOfRaised texts (One member) = HasTextsOfPlain texts member.what
+HasTextsOfRaised texts (Cancelled member) = HasTextsOfPlain texts member.what
+HasTextsOfRaised texts (Many several) = All (λ member. HasTextsOfPlain texts member.what) several.members

@@ -1,3 +1,4 @@
+pub mod Appending
 pub mod Directory
 pub mod DirectoryCode
 pub mod EntriesFall
@@ -6,6 +7,7 @@ pub mod Escapes
 pub mod Exceptions
 pub mod FilledPlaces
 pub mod Joining
+pub mod JoiningLaws
 pub mod MembersInside
 pub mod OperandsInside
 pub mod Several

@@ -1,5 +1,5 @@
 -- Exceptions that were raised together: their members in order of arrival, and whether others were left out.
-use Rattle.std.specs.Prelude.{◌≢◌, ℕ, Bool, List, [], ◌∷◌}
+use Rattle.std.specs.Prelude.{◌≢◌, ℕ, Bool, ◌||◌, nat_lt, List, [], ◌∷◌, length, take}
 use Rattle.std.specs.List.{AllPairs}
 use Rattle.eio_value.specs.declared.plain.Member.{Member}
 use Rattle.eio_value.specs.declared.plain.Plain.{Plain}
@@ -21,3 +21,7 @@ AreDistinct members = AllPairs (λ a b. a.serial ≢ b.serial) members
 -- what the first of them is; `Exit` where there is none, which `Members` never is
 abbrev pub first_what : Several → Plain
 first_what several = elim several.members [ [] ↦ Exit | member ∷ members ↦ member.what ]
+
+-- the first eight of these members; whether any is left out, or was before
+abbrev pub first_eight : List Member → Bool → Several
+first_eight members cut = record { members = take 8 members; cut = cut || nat_lt 8 (length members) }

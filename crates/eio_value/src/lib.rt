@@ -5,29 +5,44 @@
 //! another (`Message`). Texts stand in a table and are named by their numbers (`TextId`), so nearly
 //! all of these types are `Copy` and hold no memory.
 //!
+//! What two exceptions become together is `combine`. `Texts` is a table of texts, and `show`, `quote` and
+//! `show_raised` write values and exceptions by it.
+//!
 //! The definitions that speak of them stand in specs/: `Values` (the text of a value), `Exceptions`
 //! (the text of an exception), `Escapes` (how the bytes of a text are written), `Table` (the table of
 //! texts), `Several` (exceptions that were raised together), `Joining` (what two exceptions become
 //! together), `Directory` (what stands in a scripted directory). They are run on worked rows in
-//! proofs/Rows.
+//! proofs/Rows. `JoiningLaws` states what is proved of `combine` for all exceptions (src/laws.rt).
 #![tactic(auto)]
 
 mod bytes;
 mod call;
 mod entry;
+mod escapes;
 mod flow_step;
+mod joining;
+mod laws;
 mod members;
 mod message;
 mod mock_call;
 mod operands;
 mod plain;
 mod raised;
+#[cfg(test)]
+mod tests;
+mod texts;
 mod value;
+mod writing;
 
 pub use bytes::Bytes;
 pub use call::{Answer, Answered, Call, Struck, Woken};
 pub use entry::{Entries, Entry};
 pub use flow_step::FlowStep;
+pub use joining::{combine, reason};
+pub use laws::{
+    cancelled_gives_way, combine_in_any_grouping, combine_is_held, combine_is_in_order,
+    combine_with_itself,
+};
 pub use members::Members;
 pub use message::{Job, Message, Waiter};
 pub use mock_call::{Extra, MockCall, Said};
@@ -35,7 +50,9 @@ pub use operands::Operands;
 pub use plain::{Member, Misuse, PathFault, Plain};
 pub use raised::{Outcome, Raised};
 use std::alloc::{AllocError, AllocFailed};
+pub use texts::Texts;
 pub use value::{TextId, Value};
+pub use writing::{quote, show, show_raised};
 
 /// Memory was refused.
 ///

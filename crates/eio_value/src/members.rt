@@ -4,7 +4,7 @@
 //! them hold one and the same blank member, so that two groups of the same members are equal. No two
 //! members have one serial. The record that clauses see is `Several`; that it is met is the invariant
 //! of `Members`, and callers learn it by the clauses of `Members::as_slice`.
-ghost use Rattle.std.specs.Prelude.{◌≡◌, ◌≢◌, ◌<◌, ◌≤◌, [], ◌∷◌, ◌++◌, length, true, false, All};
+ghost use Rattle.std.specs.Prelude.{◌≡◌, ◌≢◌, ◌<◌, ◌≤◌, [], ◌∷◌, ◌++◌, ◌||◌, length, true, false, All};
 
 use crate::{Member, Plain};
 use std::marker::Model;
@@ -69,6 +69,17 @@ impl Members {
         ensures { result ≡ self.now.cut }
     {
         self.cut
+    }
+
+    /// The same members, and others were left out where they were before or this says so.
+    pub(crate) fn cut_where(self, others_left_out: bool) -> Members
+        ensures { result ≡ record { members = self.members; cut = self.cut || others_left_out } }
+    {
+        Members {
+            places: self.places,
+            count: self.count,
+            cut: self.cut || others_left_out,
+        }
     }
 
     /// One more where there is room for it; else it is left out.
