@@ -12,3 +12,5 @@ pub mod Preparing
 pub mod Sharing
 pub mod Raises
 pub mod Serials
+pub mod Bare
+pub mod BareScripts

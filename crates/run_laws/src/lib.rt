@@ -4,7 +4,7 @@
 #![tactic(auto)]
 
 ghost use Rattle.run_laws.specs.Beginnings.{MovesBeginAlike, StatesBeginAlike, TracesBeginAlike};
-ghost use Rattle.run_laws.specs.Meanings.{RunsGoByMeaning};
+ghost use Rattle.run_laws.specs.Meanings.{PlacesDontCount, RunsGoByMeaning};
 ghost use Rattle.run_laws.specs.Moves.{MovesWhereSomethingIsLeft, ShortRunsAreOver};
 ghost use Rattle.run_laws.specs.Serials.{LinesTellNumbered, NumbersAreNotReused, RaisesAreApart, RaisesAreNumbered, SerialsRise};
 
@@ -24,9 +24,11 @@ pub fn moves_where_something_is_left()
 {}
 
 /// Two scripts with the same names, declarations, bodies, texts and texts of failures have the same moves, states,
-/// trace and answer: a run depends on no place of a form.
+/// trace and answer: a run depends on no place of a form. Trees that are the same but for their places come to two such
+/// scripts, or are both refused for the same reason.
 pub fn runs_go_by_meaning()
-    ensures { RunsGoByMeaning }
+    ensures meaning { RunsGoByMeaning }
+    ensures places { PlacesDontCount }
 {}
 
 /// The counter of raises never falls in a move. In a run each exception that stands in a state, or that the line of the
