@@ -4,6 +4,7 @@
 #![tactic(auto)]
 
 ghost use Rattle.wait_laws.specs.Items.{CallsArePlayed, ItemsInOrderInRuns, ObjectsArePlayed};
+ghost use Rattle.wait_laws.specs.Mocked.{MockMovesAreMoves};
 ghost use Rattle.wait_laws.specs.Offs.{OffLeavesAll};
 ghost use Rattle.wait_laws.specs.Strikes.{LostStrikesTakeNone, StrikesTakeOne};
 
@@ -27,4 +28,11 @@ pub fn items_in_order_in_runs()
     ensures objects { ObjectsArePlayed }
     ensures calls { CallsArePlayed }
     ensures items { ItemsInOrderInRuns }
+{}
+
+/// Where a mocked domain asks nothing of the mocked outside, and calls only objects that are declared and whose last line
+/// isn't later than its own last one, its move is a move of one of several domains: it makes the same line, and what comes
+/// to it is what the shared part gives.
+pub fn mock_moves_are_moves()
+    ensures { MockMovesAreMoves }
 {}
