@@ -2,3 +2,4 @@ pub mod Strikes
 pub mod Offs
 pub mod Items
 pub mod Mocked
+pub mod Numbers
