@@ -3,3 +3,4 @@ pub mod Offs
 pub mod Items
 pub mod Mocked
 pub mod Numbers
+pub mod Histories

@@ -1,5 +1,5 @@
 -- A mocked move makes its label of what is asked for, just as the shared part would; so each case holds as it stands.
-use Rattle.std.proofs.Common.{◌≡◌, ℕ, ◌+◌, Bool, true, false, Option, Some, None, refl, ap, subst, arith}
+use Rattle.std.proofs.Common.{◌≡◌, ℕ, ◌+◌, Bool, true, false, length, Option, Some, None, refl, ap, subst, arith}
 use Rattle.script_model.specs.Scripts.{Script}
 use Rattle.row_model.specs.Row.{Stepped}
 use Rattle.machine_model.specs.Asking.{asks_by}
@@ -29,12 +29,13 @@ module _ (script : Script) (m : Mock) (alive : m.local.halted ≡ false) (none_l
       record {
         noted = record { line = line_by m.local.number next_stamp (stepped_by script (prepared m.local) label m.local); label = label; away = away; from = 0 };
         line = refl;
+        stamp = refl;
         local = record { runs = alive; fits = fits; later = omega arith; told = refl; next = refl };
         shared = moves;
         world = refl;
       }
 
-  by_asks : (moved : Moved) (it : Asks) → asks m.local ≡ it → IsShared m.shared it
+  by_asks : (moved : Moved) (it : Asks) → asks m.local ≡ it → IsShared (length m.shared.rows) it
       → elim (comes m next_stamp it) [ None ↦ None | Some came ↦ Some (moved_by m next_stamp came (stepped_by script (prepared m.local) came.label m.local)) ] ≡ Some moved
       → IsMove script m moved
   by_asks moved Idle asked shared is = absurd (cc)

@@ -1,6 +1,6 @@
 -- A domain keeps its number in each move. All that a move does leaves the number as it stands; so only what goes by cases needs a word.
 use Rattle.std.proofs.Common.{◌≡◌, ℕ, ◌-◌, ◌==◌, ◌&&◌, Bool, true, false, List, [], ◌∷◌, ◌++◌, length, Option, Some, None, refl}
-use Rattle.std.specs.Prelude.{ℤ, pos, negsuc, ◌+ℤ◌, int_lt, filter, not, take}
+use Rattle.std.specs.Prelude.{ℤ, pos, negsuc, ◌+ℤ◌, int_lt, filter, not}
 use Rattle.std.specs.Option.{unwrap_or}
 use Rattle.eio_value.specs.declared.call.Answer.{Answer}
 use Rattle.eio_value.specs.declared.call.Answer.TheVariants as answer
@@ -8,7 +8,6 @@ use Rattle.eio_value.specs.declared.message.Job.{Job}
 use Rattle.eio_value.specs.declared.message.Message.{Message}
 use Rattle.eio_value.specs.declared.message.Message.TheVariants as message
 use Rattle.eio_value.specs.declared.plain.Plain.{Plain}
-use Rattle.eio_value.specs.declared.plain.Plain.TheVariants.{Exit}
 use Rattle.eio_value.specs.declared.raised.Outcome.{Outcome}
 use Rattle.eio_value.specs.declared.raised.Outcome.TheVariants as outcome
 use Rattle.eio_value.specs.declared.raised.Raised.{Raised}
@@ -34,14 +33,15 @@ use Rattle.trace_out.specs.declared.line.Did.{Did}
 use Rattle.trace_out.specs.declared.line.Did.TheVariants as did
 use Rattle.trace_out.specs.declared.line.Said2.{Said2}
 use Rattle.trace_out.specs.declared.line.Said2.TheVariants as said
+use Rattle.machine_model.specs.Asking.{is_full_for_one}
 use Rattle.machine_model.specs.ClockMoves as on_clock
 use Rattle.machine_model.specs.ContextMoves as on_contexts
-use Rattle.machine_model.specs.Domain.{Role, OfBody, OfJob, OfSwitch, OfGroup, OfWriter, Next, GoesOn, CallsAgain, OnObject, Asleep, ForCancel, ForOthers, Resting, Standing, Ready, Parked, Ended, Fiber, Owed, Duty, Strike, Wake, Start, DomainState, fiber_at, off_for, is_full_by, ended, to_back}
+use Rattle.machine_model.specs.Domain.{Role, OfBody, OfJob, OfSwitch, OfGroup, OfWriter, Next, CallsAgain, OnObject, Asleep, ForCancel, ForOthers, Resting, Standing, Ready, Parked, Ended, Fiber, Owed, Duty, Strike, Wake, Start, DomainState, fiber_at, off_for, is_full_by, ended, to_back}
 use Rattle.machine_model.specs.DutyMoves as on_duties
 use Rattle.machine_model.specs.EndMoves as on_ends
 use Rattle.machine_model.specs.GroupMoves as on_groups
-use Rattle.machine_model.specs.Labels.{Label, Inner, Called, Struck}
-use Rattle.machine_model.specs.Moves.{own_call, own_move, called_move, struck_move, with_message, after}
+use Rattle.machine_model.specs.Labels.{Label, Inner, Called, Struck, Mocked, Took}
+use Rattle.machine_model.specs.Moves.{own_call, own_move, called_move, struck_move, with_message, stepped_by, after}
 use Rattle.machine_model.specs.ObjectMoves as on_objects
 use Rattle.machine_model.specs.Preparing as doing
 use Rattle.machine_model.specs.Preparing.{Doing, Prepared, prepared, prepared_ready, prepared_timers, moves_of, next_of}
@@ -49,6 +49,11 @@ use Rattle.machine_model.specs.Shared.{Asked}
 use Rattle.machine_model.specs.Steps as steps
 use Rattle.machine_model.specs.Steps.{Step}
 use Rattle.machine_model.specs.SwitchMoves as on_switches
+
+-- the mocked outside has no part in the move
+abbrev pub IsntMocked : Label → Type 0
+IsntMocked (Mocked call given texts) = ⊥
+IsntMocked other = Unit {0}
 
 module _ (n : ℕ) where
   abbrev Has : DomainState → Type 0
@@ -392,19 +397,22 @@ module _ (n : ℕ) where
   struck_ends (doing.Carries g writer) l won h = record { is = h }
   struck_ends doing.Ticks l won h = record { is = h }
 
-  -- a move of its own, by an answer of a shared object, or by what a strike came to
-  abbrev pub KeepsNumber : Script → DomainState → (stamp : ℕ) → Label → Type 0
-  KeepsNumber script l stamp label = (after script l stamp label).number ≡ n
+  takes_ends : (script : Script) (it : Message) (l : DomainState) → Has l → Ends (on_ends.takes script it l)
+  takes_ends script (message.Resume who result stamp) l h = record { is = h }
+  takes_ends script (message.Start job number stamp) l h =
+      if_ends (is_full_for_one l) (steps.halts (length l.fibers) l)
+      (steps.told (length l.fibers) (did.GotJob job.executor number) (said.Done value.Unit) (on_ends.received script (message.Start job number stamp) l)) (record { is = h })
+      (record { is = begun_has script job number l h })
 
-  pub own_keeps : (script : Script) (l : DomainState) (stamp : ℕ) → l.number ≡ n → KeepsNumber script l stamp Inner
-  unfolding after
-  own_keeps script l stamp h = (own_ends script (prepared l).doing (prepared l).state (prepared_has l h)).is
+  stepped_ends : (script : Script) (l : DomainState) (label : Label) → IsntMocked label → Has l → Ends (stepped_by script (prepared l) label l)
+  stepped_ends script l Inner isnt h = own_ends script (prepared l).doing (prepared l).state (prepared_has l h)
+  stepped_ends script l (Called asked given mine) isnt h =
+      with_message_ends script mine (called_move (prepared l) asked given) (called_ends (prepared l).doing (prepared l).state asked given (prepared_has l h))
+  stepped_ends script l (Struck who won) isnt h = struck_ends (prepared l).doing (prepared l).state won (prepared_has l h)
+  stepped_ends script l (Mocked call given texts) isnt h = absurd isnt
+  stepped_ends script l (Took it) isnt h = takes_ends script it l h
 
-  pub called_keeps : (script : Script) (l : DomainState) (stamp : ℕ) (asked : Asked) (given : Answer) (mine : Option Message) → l.number ≡ n → KeepsNumber script l stamp (Called asked given mine)
-  unfolding after
-  called_keeps script l stamp asked given mine h =
-      (with_message_ends script mine (called_move (prepared l) asked given) (called_ends (prepared l).doing (prepared l).state asked given (prepared_has l h))).is
-
-  pub struck_keeps : (script : Script) (l : DomainState) (stamp : ℕ) (who : _) (won : Bool) → l.number ≡ n → KeepsNumber script l stamp (Struck who won)
-  unfolding after
-  struck_keeps script l stamp who won h = (struck_ends (prepared l).doing (prepared l).state won (prepared_has l h)).is
+-- in each move but those that the mocked outside answers
+pub keeps_number : (script : Script) (l : DomainState) (stamp : ℕ) (label : Label) → IsntMocked label → (after script l stamp label).number ≡ l.number
+unfolding after
+keeps_number script l stamp label isnt = (stepped_ends l.number script l label isnt refl).is
