@@ -186,7 +186,7 @@ module _ (P : Member → Type 0) (kinds : ℕ → Bool) (s : ℕ) where
       let switch : Switch = switches.switch_at l.switches n in
       let t : DomainState = made switch.context (OfSwitch n (on_switches.is_daemon forking)) (on_switches.forked forking block (fiber_at l.fibers g).variables) l in
       let k : Stands P kinds s t = made_stands P kinds s _ _ _ l h in
-      let u : DomainState = on_switches.with n (switches.attach new (on_switches.is_daemon forking) switch).switch t in
+      let u : DomainState = on_switches.with_switch_at n (switches.attach new (on_switches.is_daemon forking) switch).switch t in
       let m : Stands P kinds s u = with_switch_stands P kinds s n _ t (attached_is P kinds s new (on_switches.is_daemon forking) switch (switch_is P kinds s n l h)) k in
       telling _ (fork_is forking n) (none P) (head_stands P kinds s (GoesOn (outcome.Ok value.Unit)) new (to_head (GoesOn (outcome.Ok value.Unit)) g u) (none P) (head_stands P kinds s (GoesOn (outcome.Ok value.Unit)) g u (none P) m))
 
@@ -214,7 +214,7 @@ module _ (P : Member → Type 0) (kinds : ℕ → Bool) (s : ℕ) where
     where
       by : (switch : Switch) → SwitchIs P kinds s switch → (finished : Bool)
           → Kept (elim (elim finished as (λ _. Option Switch) [ true ↦ None | false ↦ Some (record switch { fresh = switch.fresh ++ record { block = number_of block; values = (fiber_at l.fibers g).variables } ∷ [] }) ]) as (λ _. Step) [
-            | Some changed ↦ steps.does (did.OnRelease n) g (on_switches.with n changed l)
+            | Some changed ↦ steps.does (did.OnRelease n) g (on_switches.with_switch_at n changed l)
             | None ↦ steps.in_new (on_contexts.protected_of l g) g l (λ c m. on_contexts.enters_context (did.OnRelease n) said.Handler c (on_contexts.before_block call c g m) g m)
           ])
       by switch is true =
@@ -222,6 +222,7 @@ module _ (P : Member → Type 0) (kinds : ℕ → Bool) (s : ℕ) where
       by switch is false =
           let changed : Switch = record switch { fresh = switch.fresh ++ record { block = number_of block; values = (fiber_at l.fibers g).variables } ∷ [] } in
           does_kept (did.OnRelease n) (none P) g (on_switches.with n changed l) (with_switch_stands P kinds s n changed l is h)
+          does_kept (did.OnRelease n) g (on_switches.with_switch_at n changed l) (with_switch_stands P kinds s n changed l is h)
 
   closed_kept : (script : Script) (call : Ask) (n c : ℕ) (kept : Value) (step : CloseStep) (g : ℕ) (l : DomainState) → AllCall P (again call) → CloseIs P kinds s step → Stands P kinds s l
       → Kept (on_switches.closed_by script call n c kept step g l)
@@ -247,6 +248,8 @@ module _ (P : Member → Type 0) (kinds : ℕ → Bool) (s : ℕ) where
       let is : ClosedIs P kinds s closed = close_step_is P kinds s g (switches.switch_at t.switches n) (switch_is P kinds s n t k) in
       if_kept (switches.runs_handler (switches.switch_at l.switches n) && contexts.is_full l.contexts) _ _ (telling _ (none P) (none P) h)
       (closed_kept script (ask.Close n came kept) n closed.switch.context kept closed.step g (on_switches.with n closed.switch t) (none P) is.0 (with_switch_stands P kinds s n closed.switch t is.1 k))
+      if_kept (switches.runs_handler (switches.switch_at l.switches n) && contexts.is_full l.contexts) _ _ (quietly _ h)
+      (closed_kept script (ask.Close n came kept) n closed.switch.context kept closed.step g (on_switches.with_switch_at n closed.switch t) (none P) is.0 (with_switch_stands P kinds s n closed.switch t is.1 k))
 
   -- ## Groups
 

@@ -96,7 +96,7 @@ module _ (P : Member → Type 0) (kinds : ℕ → Bool) (s : ℕ) where
   pub switch_is : (n : ℕ) (l : DomainState) → Stands l → SwitchIs (switches.switch_at l.switches n)
   switch_is n l h = at_is SwitchIs l.switches n switches.never_opened h.3 (none P)
 
-  pub with_switch_stands : (n : ℕ) (switch : Switch) (l : DomainState) → SwitchIs switch → Stands l → Stands (on_switches.with n switch l)
+  pub with_switch_stands : (n : ℕ) (switch : Switch) (l : DomainState) → SwitchIs switch → Stands l → Stands (on_switches.with_switch_at n switch l)
   with_switch_stands n switch l it h = (h.0, h.1, h.2, All-set SwitchIs l.switches n switch it h.3, h.4)
 
   pub fails_stands : (maker n : ℕ) (what : Raised) (l : DomainState) → AllRaised P what → Stands l → Stands (on_switches.fails maker n what l)
@@ -105,14 +105,14 @@ module _ (P : Member → Type 0) (kinds : ℕ → Bool) (s : ℕ) where
       by_finished : (switch : Switch) (finished : Bool) → SwitchIs switch
           → Stands (elim (elim finished as (λ _. Option Switch) [ true ↦ None | false ↦ Some (record switch { errors = Some (collected.joined switch.errors what) }) ]) [
             | None ↦ l
-            | Some changed ↦ cancels maker changed.context (reason what) (on_switches.with n changed l)
+            | Some changed ↦ cancels maker changed.context (reason what) (on_switches.with_switch_at n changed l)
           ])
       by_finished switch true is = h
       by_finished switch false is =
-          cancels_stands maker switch.context (reason what) (on_switches.with n (record switch { errors = Some (collected.joined switch.errors what) }) l)
+          cancels_stands maker switch.context (reason what) (on_switches.with_switch_at n (record switch { errors = Some (collected.joined switch.errors what) }) l)
           (with_switch_stands n (record switch { errors = Some (collected.joined switch.errors what) }) l (all_joined P switch.errors what is it) h)
 
-      by : (switch : Switch) → SwitchIs switch → Stands (elim (switches.fail what switch) [ None ↦ l | Some changed ↦ cancels maker changed.context (reason what) (on_switches.with n changed l) ])
+      by : (switch : Switch) → SwitchIs switch → Stands (elim (switches.fail what switch) [ None ↦ l | Some changed ↦ cancels maker changed.context (reason what) (on_switches.with_switch_at n changed l) ])
       by switch is = by_finished switch switch.finished is
 
   pub woken_stands : (g : ℕ) (l : DomainState) → Stands l → Stands (on_switches.woken g l)
@@ -161,7 +161,7 @@ module _ (P : Member → Type 0) (kinds : ℕ → Bool) (s : ℕ) where
       let t : DomainState = on_switches.given_up g n daemon result l in
       let k : Stands t = given_up_stands g n daemon result l it h in
       let left : Detached = switches.detach g (switches.switch_at t.switches n) in
-      woken_if_stands left.woken (on_switches.with n left.switch t) (with_switch_stands n left.switch t (detach_is g (switches.switch_at t.switches n) (switch_is n t k)) k)
+      woken_if_stands left.woken (on_switches.with_switch_at n left.switch t) (with_switch_stands n left.switch t (detach_is g (switches.switch_at t.switches n) (switch_is n t k)) k)
 
   pub attached_is : (fiber : ℕ) (daemon : Bool) (switch : Switch) → SwitchIs switch → SwitchIs (switches.attach fiber daemon switch).switch
   attached_is fiber daemon switch is = by (switches.refuses_fibers switch) daemon

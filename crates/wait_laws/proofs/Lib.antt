@@ -1,3 +1,6 @@
 pub mod Strikes
 pub mod Offs
 pub mod Items
+pub mod Mocked
+pub mod Numbers
+pub mod Histories

@@ -1,3 +1,4 @@
 pub mod Strikes
 pub mod Offs
 pub mod Items
+pub mod Mocked

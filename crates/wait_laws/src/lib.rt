@@ -4,6 +4,7 @@
 #![tactic(auto)]
 
 ghost use Rattle.wait_laws.specs.Items.{CallsArePlayed, ItemsInOrderInRuns, ObjectsArePlayed};
+ghost use Rattle.wait_laws.specs.Mocked.{MockMovesAreMoves, MockRunsAreLegal};
 ghost use Rattle.wait_laws.specs.Offs.{OffLeavesAll};
 ghost use Rattle.wait_laws.specs.Strikes.{LostStrikesTakeNone, StrikesTakeOne};
 
@@ -27,4 +28,18 @@ pub fn items_in_order_in_runs()
     ensures objects { ObjectsArePlayed }
     ensures calls { CallsArePlayed }
     ensures items { ItemsInOrderInRuns }
+{}
+
+/// Where a mocked domain asks nothing of the mocked outside, and calls only objects that are declared and whose last line
+/// isn't later than its own last one, its move is a move of one of several domains: it makes the same line, and what comes
+/// to it is what the shared part gives.
+pub fn mock_moves_are_moves()
+    ensures { MockMovesAreMoves }
+{}
+
+/// A run on one mocked domain that asks nothing of the mocked outside, and calls only declared objects, is a legal history
+/// of its script with that one body: the lines are those of the moves, and the domain and all that is shared end as they do
+/// in the run. Where no timer stands at the end, both have the same ending.
+pub fn mock_runs_are_legal()
+    ensures { MockRunsAreLegal }
 {}
