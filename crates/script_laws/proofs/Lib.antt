@@ -6,3 +6,8 @@ mod Captures
 mod Statements
 mod Declarations
 mod Scripts
+mod SharedSteps
+mod SharedOperands
+mod SharedStatements
+mod SharedScripts
+mod Commands

@@ -1,7 +1,7 @@
 -- Of lists: what a search finds is as each item is, and what stands at a place stands there in a longer list.
-use Rattle.std.proofs.Common.{◌≡◌, ℕ, zero, suc, Bool, true, false, cond, List, [], ◌∷◌, ◌++◌, length, Option, Some, None, refl, subst}
+use Rattle.std.proofs.Common.{◌≡◌, ℕ, zero, suc, Bool, true, false, cond, List, [], ◌∷◌, ◌++◌, length, Option, Some, None, refl, sym, subst}
 use Rattle.std.proofs.lemmas.Bool.{and_parts}
-use Rattle.std.specs.Prelude.{slice_get, find, filter}
+use Rattle.std.specs.Prelude.{slice_get, find, filter, option_map}
 use Rattle.std.specs.List.{AllByRecursion as Each, list_all}
 
 pub same_Some : {A : Type 0} (x y : A) → ◌≡◌ {A = Option A} (Some x) (Some y) → x ≡ y
@@ -30,6 +30,16 @@ found_passes {A} passes test (y ∷ xs) x all e =
     by : (b : Bool) → cond b (Some y) (find test xs) ≡ Some x → passes y ≡ true → (find test xs ≡ Some x → passes x ≡ true) → passes x ≡ true
     by true e own rest = subst (λ (z : A). passes z ≡ true) (same_Some y x e) own
     by false e own rest = rest e
+
+-- where nothing is found, no item passes
+pub none_passes : {A B : Type 0} (f : A → B) (test : A → Bool) (xs : List A) → option_map f (find test xs) ≡ None → Each (λ x. test x ≡ false) xs
+none_passes f test [] e = tt
+none_passes {A} {B} f test (y ∷ xs) e = by (test y) refl e (none_passes f test xs)
+  where
+    by : (b : Bool) → test y ≡ b → option_map f (cond b (Some y) (find test xs)) ≡ None → (option_map f (find test xs) ≡ None → Each (λ x. test x ≡ false) xs)
+        → (test y ≡ false) × Each (λ x. test x ≡ false) xs
+    by true is e rest = absurd (none_some (f y) (sym e))
+    by false is e rest = (is, rest e)
 
 pub each_kept : {A : Type 0} (P : A → Type 0) (test : A → Bool) (xs : List A) → Each P xs → Each P (filter test xs)
 each_kept P test [] each = tt

@@ -1,9 +1,12 @@
 -- What the scripts that are read have.
-use Rattle.std.specs.Prelude.{◌≡◌, ℕ, List, Ok}
-use Rattle.script_model.specs.Inputs.{input_script}
+use Rattle.std.specs.Prelude.{◌≡◌, ℕ, List, Ok, None}
+use Rattle.script_model.specs.Features.{Built}
+use Rattle.script_model.specs.Inputs.{input_script, mocked_script, shared_script}
+use Rattle.script_model.specs.RefusedForms.{mock_only}
 use Rattle.script_model.specs.Scripts.{Script, script_of}
 use Rattle.script_model.specs.Trees.{Tree}
 use Rattle.script_laws.specs.Numbers.{HasFittingNumbers}
+use Rattle.script_laws.specs.Sharing.{IsShared}
 use Rattle.script_laws.specs.Soundness.{IsSound}
 
 -- the script of a tree is sound. A tree that is read from bytes has no numbers but such as fit
@@ -13,3 +16,15 @@ ReadScriptsAreSound = (tree : Tree) (script : Script) → HasFittingNumbers tree
 -- and so is the script of an input
 abbrev pub InputScriptsAreSound : Type 0
 InputScriptsAreSound = (bytes : List ℕ) (script : Script) → input_script bytes ≡ Ok script → IsSound script
+
+-- and so is the script that `mock` runs
+abbrev pub MockedScriptsAreSound : Type 0
+MockedScriptsAreSound = (built : Built) (bytes : List ℕ) (script : Script) → mocked_script built bytes ≡ Ok script → IsSound script
+
+-- where no form of a script is refused as one for the mocked domain alone, several domains can run it
+abbrev pub SharedScriptsHaveNoMockedForm : Type 0
+SharedScriptsHaveNoMockedForm = (tree : Tree) (script : Script) → script_of tree ≡ Ok script → mock_only script ≡ None → IsShared script
+
+-- the script that `domains` runs is sound, and several domains can run it
+abbrev pub DomainScriptsAreShared : Type 0
+DomainScriptsAreShared = (built : Built) (bytes : List ℕ) (script : Script) → shared_script built bytes ≡ Ok script → IsSound script × IsShared script

@@ -3,11 +3,20 @@
 //! A law is stated in `specs/`, and what proves it stands in the files of `proofs/`.
 #![tactic(auto)]
 
-ghost use Rattle.script_laws.specs.Readings.{InputScriptsAreSound, ReadScriptsAreSound};
+ghost use Rattle.script_laws.specs.Readings.{DomainScriptsAreShared, InputScriptsAreSound, MockedScriptsAreSound};
+ghost use Rattle.script_laws.specs.Readings.{ReadScriptsAreSound, SharedScriptsHaveNoMockedForm};
 
 /// A script that is read is sound: each name stands for what its place wants, and each number is within its limits. Of a
 /// tree its numbers have to fit into 64 bits, as those of each tree do that is read from bytes.
 pub fn read_scripts_are_sound()
     ensures trees { ReadScriptsAreSound }
     ensures inputs { InputScriptsAreSound }
+    ensures mocked { MockedScriptsAreSound }
+{}
+
+/// A script of which no form is refused as one for the mocked domain alone has no clock, no flow and no path, in whatever
+/// depth. Such a one is what `domains` runs.
+pub fn shared_scripts_have_no_mocked_form()
+    ensures trees { SharedScriptsHaveNoMockedForm }
+    ensures domains { DomainScriptsAreShared }
 {}

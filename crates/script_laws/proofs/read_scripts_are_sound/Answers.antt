@@ -1,3 +1,4 @@
+use Rattle.script_laws.proofs.Commands.{mocked_is_sound}
 use Rattle.script_laws.proofs.Scripts.{input_is_sound, script_is_sound}
 use Rattle.script_laws.proofs.read_scripts_are_sound.Goals as goal
 
@@ -6,3 +7,6 @@ returns-clause-trees c = λ tree script numbers e. script_is_sound tree numbers 
 
 pub returns-clause-inputs : goal.returns-clause-inputs
 returns-clause-inputs c = input_is_sound
+
+pub returns-clause-mocked : goal.returns-clause-mocked
+returns-clause-mocked c = mocked_is_sound

@@ -1,0 +1,38 @@
+-- The scripts that `mock` and `domains` run.
+use Rattle.std.proofs.Common.{◌≡◌, ℕ, Option, Some, None, Ok, refl, subst}
+use Rattle.script_model.specs.Inputs.{input_script, unless_at, mocked_script, shared_script}
+use Rattle.script_model.specs.RefusedForms.{mock_only, domain_only, unbuilt}
+use Rattle.script_model.specs.Refusals.{Refusal, MockOnly, DomainOnly, Unbuilt}
+use Rattle.script_model.specs.Results.{◌>>=◌}
+use Rattle.script_model.specs.Scripts.{Script}
+use Rattle.tree_laws.proofs.Steps.{same_Ok, err-ok, both_gave}
+use Rattle.script_laws.specs.Readings.{MockedScriptsAreSound, DomainScriptsAreShared}
+use Rattle.script_laws.specs.Sharing.{IsShared}
+use Rattle.script_laws.specs.Soundness.{IsSound}
+use Rattle.script_laws.proofs.Scripts.{script_is_read, input_is_sound}
+use Rattle.script_laws.proofs.SharedScripts.{shared_scripts}
+
+-- what isn't refused at any place is the script itself
+unless_is : (refusal : ℕ → Refusal) (at : Option ℕ) (script found : Script) → unless_at refusal at script ≡ Ok found → (at ≡ None) × (script ≡ found)
+unless_is refusal None script found e = (refl, same_Ok script found e)
+unless_is refusal (Some at) script found e = absurd (err-ok _ _ e)
+
+pub mocked_is_sound : MockedScriptsAreSound
+unfolding mocked_script
+mocked_is_sound built bytes script e =
+    let read = both_gave (input_script bytes) (λ script. unless_at DomainOnly (domain_only script) script >>= λ one. unless_at Unbuilt (unbuilt built one) one) script e in
+    let rest = both_gave (unless_at DomainOnly (domain_only read.0) read.0) (λ one. unless_at Unbuilt (unbuilt built one) one) script read.2 in
+    let whole = unless_is DomainOnly (domain_only read.0) read.0 rest.0 rest.1 in
+    let plain = unless_is Unbuilt (unbuilt built rest.0) rest.0 script rest.2 in
+    subst IsSound plain.1 (subst IsSound whole.1 (input_is_sound bytes read.0 read.1))
+
+pub domains_are_shared : DomainScriptsAreShared
+unfolding shared_script
+domains_are_shared built bytes script e =
+    let read = both_gave (input_script bytes) (λ script. unless_at MockOnly (mock_only script) script >>= λ plain. unless_at Unbuilt (unbuilt built plain) plain) script e in
+    let rest = both_gave (unless_at MockOnly (mock_only read.0) read.0) (λ plain. unless_at Unbuilt (unbuilt built plain) plain) script read.2 in
+    let whole = unless_is MockOnly (mock_only read.0) read.0 rest.0 rest.1 in
+    let plain = unless_is Unbuilt (unbuilt built rest.0) rest.0 script rest.2 in
+    let own = script_is_read bytes read.0 read.1 in
+    let both : IsSound read.0 × IsShared read.0 = (input_is_sound bytes read.0 read.1, shared_scripts own.0 read.0 own.2 whole.0) in
+    subst (λ (s : Script). IsSound s × IsShared s) plain.1 (subst (λ (s : Script). IsSound s × IsShared s) whole.1 both)
