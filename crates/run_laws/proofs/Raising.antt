@@ -221,8 +221,7 @@ module _ (P : Member → Type 0) (kinds : ℕ → Bool) (s : ℕ) where
           in_new_kept (on_contexts.protected_of l g).number (on_contexts.protected_of l g).contexts g l (λ c m. on_contexts.enters_context (did.OnRelease n) said.Handler c (on_contexts.before_block call c g m) g m) h (λ c m k. enters_kept _ _ (none P) (none P) c (on_contexts.before_block call c g m) g m k)
       by switch is false =
           let changed : Switch = record switch { fresh = switch.fresh ++ record { block = number_of block; values = (fiber_at l.fibers g).variables } ∷ [] } in
-          does_kept (did.OnRelease n) (none P) g (on_switches.with n changed l) (with_switch_stands P kinds s n changed l is h)
-          does_kept (did.OnRelease n) g (on_switches.with_switch_at n changed l) (with_switch_stands P kinds s n changed l is h)
+          does_kept (did.OnRelease n) (none P) g (on_switches.with_switch_at n changed l) (with_switch_stands P kinds s n changed l is h)
 
   closed_kept : (script : Script) (call : Ask) (n c : ℕ) (kept : Value) (step : CloseStep) (g : ℕ) (l : DomainState) → AllCall P (again call) → CloseIs P kinds s step → Stands P kinds s l
       → Kept (on_switches.closed_by script call n c kept step g l)
@@ -247,8 +246,6 @@ module _ (P : Member → Type 0) (kinds : ℕ → Bool) (s : ℕ) where
       let closed : Closed = switches.close_step g (switches.switch_at t.switches n) in
       let is : ClosedIs P kinds s closed = close_step_is P kinds s g (switches.switch_at t.switches n) (switch_is P kinds s n t k) in
       if_kept (switches.runs_handler (switches.switch_at l.switches n) && contexts.is_full l.contexts) _ _ (telling _ (none P) (none P) h)
-      (closed_kept script (ask.Close n came kept) n closed.switch.context kept closed.step g (on_switches.with n closed.switch t) (none P) is.0 (with_switch_stands P kinds s n closed.switch t is.1 k))
-      if_kept (switches.runs_handler (switches.switch_at l.switches n) && contexts.is_full l.contexts) _ _ (quietly _ h)
       (closed_kept script (ask.Close n came kept) n closed.switch.context kept closed.step g (on_switches.with_switch_at n closed.switch t) (none P) is.0 (with_switch_stands P kinds s n closed.switch t is.1 k))
 
   -- ## Groups
