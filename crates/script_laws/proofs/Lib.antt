@@ -11,3 +11,7 @@ mod SharedOperands
 mod SharedStatements
 mod SharedScripts
 mod Commands
+mod AlikeSteps
+mod AlikeOperands
+mod AlikeStatements
+mod AlikeScripts
