@@ -15,3 +15,4 @@ mod AlikeSteps
 mod AlikeOperands
 mod AlikeStatements
 mod AlikeScripts
+mod Unsound
