@@ -8,7 +8,8 @@ ghost use Rattle.script_laws.specs.Readings.{DomainScriptsAreShared, InputScript
 ghost use Rattle.script_laws.specs.Readings.{ReadScriptsAreSound, SharedScriptsHaveNoMockedForm};
 
 /// A script that is read is sound: each name stands for what its place wants, and each number is within its limits. Of a
-/// tree its numbers have to fit into 64 bits, as those of each tree do that is read from bytes.
+/// tree its numbers have to fit into 64 bits, as those of each tree do that is read from bytes. What `mock` runs has one
+/// body.
 pub fn read_scripts_are_sound()
     ensures trees { ReadScriptsAreSound }
     ensures inputs { InputScriptsAreSound }
