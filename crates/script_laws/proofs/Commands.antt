@@ -1,5 +1,5 @@
 -- The scripts that `mock` and `domains` run.
-use Rattle.std.proofs.Common.{◌≡◌, ℕ, Option, Some, None, Ok, refl, subst}
+use Rattle.std.proofs.Common.{◌≡◌, ℕ, length, Option, Some, None, Ok, refl, subst}
 use Rattle.script_model.specs.Inputs.{input_script, unless_at, mocked_script, shared_script}
 use Rattle.script_model.specs.RefusedForms.{mock_only, domain_only, unbuilt}
 use Rattle.script_model.specs.Refusals.{Refusal, MockOnly, DomainOnly, Unbuilt}
@@ -17,6 +17,9 @@ unless_is : (refusal : ℕ → Refusal) (at : Option ℕ) (script found : Script
 unless_is refusal None script found e = (refl, same_Ok script found e)
 unless_is refusal (Some at) script found e = absurd (err-ok _ _ e)
 
+abbrev HasOneBody : Script → Type 0
+HasOneBody script = IsSound script × (length script.bodies ≡ 1)
+
 pub mocked_is_sound : MockedScriptsAreSound
 unfolding mocked_script
 mocked_is_sound built bytes script e =
@@ -24,7 +27,9 @@ mocked_is_sound built bytes script e =
     let rest = both_gave (unless_at DomainOnly (domain_only read.0) read.0) (λ one. unless_at Unbuilt (unbuilt built one) one) script read.2 in
     let whole = unless_is DomainOnly (domain_only read.0) read.0 rest.0 rest.1 in
     let plain = unless_is Unbuilt (unbuilt built rest.0) rest.0 script rest.2 in
-    subst IsSound plain.1 (subst IsSound whole.1 (input_is_sound bytes read.0 read.1))
+    let sound = input_is_sound bytes read.0 read.1 in
+    let both : IsSound read.0 × (length read.0.bodies ≡ 1) = (sound, sound.main_alone whole.0) in
+    subst HasOneBody plain.1 (subst HasOneBody whole.1 both)
 
 pub domains_are_shared : DomainScriptsAreShared
 unfolding shared_script

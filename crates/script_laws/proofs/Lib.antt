@@ -1,13 +1,18 @@
-mod Steps
-mod Lists
-mod Names
-mod Expressions
-mod Captures
-mod Statements
-mod Declarations
-mod Scripts
-mod SharedSteps
-mod SharedOperands
-mod SharedStatements
-mod SharedScripts
-mod Commands
+pub mod Steps
+pub mod Lists
+pub mod Names
+pub mod Expressions
+pub mod Captures
+pub mod Statements
+pub mod Declarations
+pub mod Scripts
+pub mod SharedSteps
+pub mod SharedOperands
+pub mod SharedStatements
+pub mod SharedScripts
+pub mod Commands
+pub mod AlikeSteps
+pub mod AlikeOperands
+pub mod AlikeStatements
+pub mod AlikeScripts
+pub mod Unsound

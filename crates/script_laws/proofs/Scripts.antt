@@ -13,7 +13,7 @@ use Rattle.script_model.specs.Limits.{most_bodies, most_input_bytes, most_open_l
 use Rattle.script_model.specs.Reading.{reading}
 use Rattle.script_model.specs.Reads.{Made, nothing_made, ◌>>>◌, gives, refuses, requires_that}
 use Rattle.script_model.specs.Refusals.{Refusal, NoTree, NoScript, TooLong, or_refused, input_tree}
-use Rattle.script_model.specs.Scripts.{Script, items_behind, Parts, with_first, parts_of, domains_in, bodies_of, body_scope, body, domains, read_parts, script_by, script_of_parts, is_one, root_of, script_of}
+use Rattle.script_model.specs.Scripts.{Script, items_behind, Parts, with_first, parts_of, domains_in, bodies_of, body_scope, body, domains, read_parts, first_place, script_by, script_of_parts, is_one, root_of, script_of}
 use Rattle.script_model.specs.Statements.{statements}
 use Rattle.script_model.specs.Syntax.{Block}
 use Rattle.script_model.specs.Trees.{Tree, Word, Number, Text, Branch, Trees, Nil, And, place_of}
@@ -23,6 +23,7 @@ use Rattle.tree_laws.proofs.Steps.{same_Ok, err-ok, both_gave}
 use Rattle.script_laws.specs.Numbers.{HasFittingNumbers, HaveFittingNumbers}
 use Rattle.script_laws.specs.Soundness.{in_body, kinds_of, IsSoundDeclaration, IsSoundBlock, IsSound}
 use Rattle.script_laws.proofs.Declarations.{AreDeclared, declarations_are, none_declared}
+use Rattle.script_laws.proofs.Lists.{none_some}
 use Rattle.script_laws.proofs.Names.{IsDeclared}
 use Rattle.script_laws.proofs.Statements.{block_is_sound, statements_are_sound}
 use Rattle.script_laws.proofs.Steps.{Gives, given, refused, going_on, met}
@@ -119,6 +120,10 @@ parts_are_sound parts fit =
 some_bodies : (bodies : List Block) (n : ℕ) → length bodies ≡ n + 1 → 1 ≤ length bodies
 some_bodies bodies n e = omega (arith, e)
 
+main_alone : (behind : Trees) (n : ℕ) → n ≡ domains_in behind + 1 → first_place behind ≡ None → n ≡ 1
+main_alone Nil n count none = count
+main_alone (And tree row) n count none = absurd (none_some (place_of tree) (sym none))
+
 sound_by : (parts : Parts) (declared : Declared) (bodies : List Block) (made : Made) → AreParts (bodies_of parts) (declared, bodies) → IsSound (script_by parts declared bodies made)
 sound_by parts declared bodies made are = record {
   names = are.0.names;
@@ -126,6 +131,7 @@ sound_by parts declared bodies made are = record {
   declarations = subst (λ (n : ℕ). All (IsSoundDeclaration n) declared.declarations) (sym are.3) (All-from_recursion (IsSoundDeclaration (bodies_of parts)) declared.declarations are.0.sound);
   has_main = some_bodies bodies (domains_in parts.behind) are.3;
   few_bodies = are.2;
+  main_alone = main_alone parts.behind (length bodies) are.3;
   bodies = All-from_recursion (IsBody (kinds_of declared.declarations)) bodies are.1;
 }
 

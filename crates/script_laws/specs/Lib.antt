@@ -2,3 +2,4 @@ pub mod Numbers
 pub mod Soundness
 pub mod Sharing
 pub mod Readings
+pub mod Meanings

@@ -1,5 +1,5 @@
 -- What the scripts that are read have.
-use Rattle.std.specs.Prelude.{◌≡◌, ℕ, List, Ok, None}
+use Rattle.std.specs.Prelude.{◌≡◌, ℕ, List, length, Ok, None}
 use Rattle.script_model.specs.Features.{Built}
 use Rattle.script_model.specs.Inputs.{input_script, mocked_script, shared_script}
 use Rattle.script_model.specs.RefusedForms.{mock_only}
@@ -17,9 +17,9 @@ ReadScriptsAreSound = (tree : Tree) (script : Script) → HasFittingNumbers tree
 abbrev pub InputScriptsAreSound : Type 0
 InputScriptsAreSound = (bytes : List ℕ) (script : Script) → input_script bytes ≡ Ok script → IsSound script
 
--- and so is the script that `mock` runs
+-- and so is the script that `mock` runs, which has one body
 abbrev pub MockedScriptsAreSound : Type 0
-MockedScriptsAreSound = (built : Built) (bytes : List ℕ) (script : Script) → mocked_script built bytes ≡ Ok script → IsSound script
+MockedScriptsAreSound = (built : Built) (bytes : List ℕ) (script : Script) → mocked_script built bytes ≡ Ok script → IsSound script × (length script.bodies ≡ 1)
 
 -- where no form of a script is refused as one for the mocked domain alone, several domains can run it
 abbrev pub SharedScriptsHaveNoMockedForm : Type 0

@@ -3,11 +3,13 @@
 //! A law is stated in `specs/`, and what proves it stands in the files of `proofs/`.
 #![tactic(auto)]
 
+ghost use Rattle.script_laws.specs.Meanings.{ScriptsHaveNoPlaces};
 ghost use Rattle.script_laws.specs.Readings.{DomainScriptsAreShared, InputScriptsAreSound, MockedScriptsAreSound};
 ghost use Rattle.script_laws.specs.Readings.{ReadScriptsAreSound, SharedScriptsHaveNoMockedForm};
 
 /// A script that is read is sound: each name stands for what its place wants, and each number is within its limits. Of a
-/// tree its numbers have to fit into 64 bits, as those of each tree do that is read from bytes.
+/// tree its numbers have to fit into 64 bits, as those of each tree do that is read from bytes. What `mock` runs has one
+/// body.
 pub fn read_scripts_are_sound()
     ensures trees { ReadScriptsAreSound }
     ensures inputs { InputScriptsAreSound }
@@ -19,4 +21,9 @@ pub fn read_scripts_are_sound()
 pub fn shared_scripts_have_no_mocked_form()
     ensures trees { SharedScriptsHaveNoMockedForm }
     ensures domains { DomainScriptsAreShared }
+{}
+
+/// Trees that are the same but for their places are both scripts that mean the same, or neither is one.
+pub fn scripts_mean_the_same_without_places()
+    ensures { ScriptsHaveNoPlaces }
 {}
