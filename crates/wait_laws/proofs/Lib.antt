@@ -4,3 +4,4 @@ pub mod Items
 pub mod Mocked
 pub mod Numbers
 pub mod Histories
+mod WorkedRuns
