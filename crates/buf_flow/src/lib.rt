@@ -13,7 +13,7 @@ mod read;
 mod write;
 
 pub use flow::{FlowRead, MockFlow};
-pub use laws::{cuts_alike, decided_stays, histories_alike};
+pub use laws::{calls_end_by_bytes_to_come, cuts_alike, decided_stays, histories_alike};
 pub use read::{BufRead, Item};
 pub use write::BufWrite;
 
