@@ -119,7 +119,7 @@ decided_ends : (call : ReaderCall) (shown : Option (List ℕ)) (reader : Reader)
 decided_ends call shown reader steps open_still decided =
     let by : answer reader.most call (still_to_come reader steps) ≡ Gives (with_behind (bytes_to_come steps).bytes (taken reader.most reader.over call reader.bytes)) = decided_answer reader.most reader.over call reader.bytes (bytes_to_come steps) (λ over. none_to_come steps (open_still.last over)) decided in
     subst (λ a. EndsAs a (still_to_come reader steps).fault (given_now call shown reader steps (item call reader))) (sym by)
-      (refl, refl, record { open_still = open_still.open_still; last = open_still.last })
+    (refl, refl, record { open_still = open_still.open_still; last = open_still.last })
 
 -- where they don't, the end wasn't read
 still_reading : (call : ReaderCall) (reader : Reader) → item call reader ≡ NeedMore → reader.over ≡ false
@@ -135,7 +135,7 @@ ends_at_end moves call reader open_still undecided =
     let end : Read = given_now call None (finish reader) [] (item call (finish reader)) in
     let is : last_move moves call reader [] ≡ end = stops moves call reader [] end (reading_move call reader [] open_still.open_still undecided ∙ answered ReadsOn call None (finish reader) [] decided) (λ again now. refl) in
     subst (EndsAs (answer reader.most call (still_to_come reader [])) (still_to_come reader []).fault) (sym is)
-      (decided_ends call None (finish reader) [] (record { open_still = open_still.open_still; last = λ over. refl }) decided)
+    (decided_ends call None (finish reader) [] (record { open_still = open_still.open_still; last = λ over. refl }) decided)
 
 -- a fault is read
 ends_at_fault : (moves : ℕ) (call : ReaderCall) (reader : Reader) (text : TextId) (steps : List FlowStep) → IsOpen reader (Fault text ∷ steps) → item call reader ≡ NeedMore → EndsAs (answer reader.most call (still_to_come reader (Fault text ∷ steps))) (still_to_come reader (Fault text ∷ steps)).fault (last_move moves call reader (Fault text ∷ steps))
@@ -148,7 +148,7 @@ ends_at_fault moves call reader text steps open_still undecided =
     let none : t.item ≡ NeedMore = ap (λ (x : Taken). x.item) same ∙ undecided in
     let stays : t.left ≡ reader.bytes = ap (λ (x : Taken). x.left) same ∙ undecided_leaves reader.most reader.over call reader.bytes undecided in
     subst (EndsAs (answer reader.most call (still_to_come reader (Fault text ∷ steps))) (Some text)) (sym is)
-      (subst (λ a. EndsAs a (Some text) end) (sym (undecided_fails text t none)) (refl, sym stays))
+    (subst (λ a. EndsAs a (Some text) end) (sym (undecided_fails text t none)) (refl, sym stays))
 
 is_decided : (i : Item) → (i ≡ NeedMore) ⊎ (i ≢ NeedMore)
 is_decided NeedMore = inl refl
@@ -205,9 +205,9 @@ ends (Pause ∷ steps) (suc moves) call reader enough open_still = elim (is_deci
   | inl undecided ↦
       let move : Read = record { reading = GivesWay; shown = None; reader = reader; steps = steps } in
       carry reader.most call (still_to_come reader (Pause ∷ steps)) (still_to_come reader steps) (last_move (suc moves) call reader (Pause ∷ steps)) (last_move moves call reader steps)
-        (pause_to_come reader steps)
-        (goes_on moves call reader (Pause ∷ steps) move (reading_move call reader (Pause ∷ steps) open_still.open_still undecided) (λ again now. refl))
-        (ends steps moves call reader (omega (arith, enough)) (rest_open Pause steps reader open_still))
+      (pause_to_come reader steps)
+      (goes_on moves call reader (Pause ∷ steps) move (reading_move call reader (Pause ∷ steps) open_still.open_still undecided) (λ again now. refl))
+      (ends steps moves call reader (omega (arith, enough)) (rest_open Pause steps reader open_still))
   | inr decided ↦ ends_at_once (suc moves) call reader (Pause ∷ steps) open_still decided
 ]
 ends (Data bytes ∷ steps) zero call reader enough open_still = absurd (omega (arith, enough))
@@ -216,17 +216,17 @@ ends (Data bytes ∷ steps) (suc moves) call reader enough open_still = elim (is
       let rest : IsOpen reader steps = rest_open (Data bytes) steps reader open_still in
       let fed : IsOpen (feed bytes reader) steps = record { open_still = rest.open_still; last = rest.last } in
       carry reader.most call (still_to_come reader (Data bytes ∷ steps)) (still_to_come (feed bytes reader) steps) (last_move (suc moves) call reader (Data bytes ∷ steps)) (last_move (suc moves) call reader (Data bytes ∷ steps))
-        (fed_to_come reader bytes steps)
-        refl
-        (elim (is_decided (item call (feed bytes reader))) [
-          | inl still ↦
-              let move : Read = record { reading = ReadsOn; shown = Some bytes; reader = feed bytes reader; steps = steps } in
-              carry reader.most call (still_to_come (feed bytes reader) steps) (still_to_come (feed bytes reader) steps) (last_move (suc moves) call reader (Data bytes ∷ steps)) (last_move moves call (feed bytes reader) steps)
-                refl
-                (goes_on moves call reader (Data bytes ∷ steps) move (reading_move call reader (Data bytes ∷ steps) open_still.open_still undecided ∙ unanswered ReadsOn call (Some bytes) (feed bytes reader) steps still) (λ again now. refl))
-                (ends steps moves call (feed bytes reader) (omega (arith, enough)) fed)
-          | inr decided ↦ ends_with_bytes (suc moves) call reader bytes steps open_still undecided fed decided
-        ])
+      (fed_to_come reader bytes steps)
+      refl
+      (elim (is_decided (item call (feed bytes reader))) [
+        | inl still ↦
+            let move : Read = record { reading = ReadsOn; shown = Some bytes; reader = feed bytes reader; steps = steps } in
+            carry reader.most call (still_to_come (feed bytes reader) steps) (still_to_come (feed bytes reader) steps) (last_move (suc moves) call reader (Data bytes ∷ steps)) (last_move moves call (feed bytes reader) steps)
+            refl
+            (goes_on moves call reader (Data bytes ∷ steps) move (reading_move call reader (Data bytes ∷ steps) open_still.open_still undecided ∙ unanswered ReadsOn call (Some bytes) (feed bytes reader) steps still) (λ again now. refl))
+            (ends steps moves call (feed bytes reader) (omega (arith, enough)) fed)
+        | inr decided ↦ ends_with_bytes (suc moves) call reader bytes steps open_still undecided fed decided
+      ])
   | inr decided ↦ ends_at_once (suc moves) call reader (Data bytes ∷ steps) open_still decided
 ]
 

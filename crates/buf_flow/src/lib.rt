@@ -10,6 +10,7 @@ mod laws;
 mod line;
 mod queue;
 mod read;
+mod searched;
 mod write;
 
 pub use flow::{FlowRead, MockFlow};
