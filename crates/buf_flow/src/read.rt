@@ -3,7 +3,7 @@
 //! Each call answers as the definition does by the bytes that are there (`Answers`). No byte is searched for LF twice, and
 //! what is given leaves the front without moving the rest each time: that is kept by `SearchedBytes` and `ByteQueue`. That the
 //! answers don't depend on how the bytes were cut is the law [`crate::cuts_alike`].
-ghost use Rattle.std.specs.Prelude.{◌≡◌, ◌≤◌, None, length, take, drop, pos, OnOk, OnErr, MatchBool};
+ghost use Rattle.std.specs.Prelude.{◌≡◌, ◌<◌, ◌≤◌, None, length, take, drop, pos, OnOk, OnErr, MatchBool};
 ghost use Rattle.row_model.specs.BytesToCome.{Line, TakeBytes, TakeAll, Char, AtEnd, line_end};
 ghost use Rattle.row_model.specs.Readers.{new_reader, feed, finish};
 
@@ -69,6 +69,7 @@ impl BufRead {
     pub fn feed(&mut self, bytes: &[u8]) -> Result<(), NoMemory>
         ensures ok { OnOk result (self.new ≡ feed bytes.now self.old) }
         ensures err { OnErr result (self.new ≡ self.old) }
+        ensures needs_bytes { OnErr result (0 < length bytes.now) }
     {
         self.bytes.put(bytes)
     }

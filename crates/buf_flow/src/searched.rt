@@ -51,6 +51,7 @@ impl SearchedBytes {
     pub(crate) fn put(&mut self, bytes: &[u8]) -> Result<(), NoMemory>
         ensures ok { OnOk result (self.new ≡ record self.old { bytes = self.old.bytes ++ bytes.now }) }
         ensures err { OnErr result (self.new ≡ self.old) }
+        ensures needs_bytes { OnErr result (0 < length bytes.now) }
     {
         self.bytes.put(bytes)
     }
