@@ -2,3 +2,4 @@ pub mod Cutting
 pub mod Deciding
 pub mod Interleaving
 pub mod Lines
+pub mod Moving

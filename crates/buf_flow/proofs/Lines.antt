@@ -3,8 +3,8 @@ use Rattle.std.proofs.Common.{◌≡◌, ◌≢◌, ℕ, zero, suc, ◌+◌, ◌
 use Rattle.std.proofs.lemmas.Grind.{common_steps}
 use Rattle.std.proofs.lemmas.List.{take_all, length-take-le, get_or-take}
 use Rattle.std.proofs.lemmas.List.Quantifiers.{position-Some}
-use Rattle.std.proofs.lemmas.List.Sums.{position_or_len_is, fails_before_first}
-use Rattle.std.specs.Prelude.{◌==◌, nat_lt, if◌then◌else◌, position}
+use Rattle.std.proofs.lemmas.List.Sums.{position_or_len_is}
+use Rattle.std.specs.Prelude.{◌==◌, nat_lt, position}
 use Rattle.std.specs.List.{position_or_len}
 use Rattle.row_model.specs.BytesToCome.{without_cr}
 use Rattle.buf_flow.specs.LineFeeds.{HasNoLineFeed}
@@ -58,20 +58,6 @@ no_line_feed bytes place none past =
     let first : position_or_len is_line_feed bytes ≡ length bytes = by_place bytes (length bytes) (omega arith) (λ k less. none k (omega arith)) (λ l. absurd (omega arith)) in
     let test : nat_lt (length bytes) (length bytes) ≡ false = grind (arith, common_steps) in
     rw (first, test) refl
-
-past_by : (bytes : List ℕ) (less : Bool) (place : ℕ) → less ≡ nat_lt place (length bytes) → None ≡ (if less then Some place else None) → length bytes ≤ place
-past_by bytes true place test none = absurd (cc)
-past_by bytes false place test none = grind (arith, common_steps)
-
--- where a front has no first LF, none of its bytes is LF
-pub searched : (bytes : List ℕ) (count : ℕ) → count ≤ length bytes → None ≡ position (λ b. b == 10) (take count bytes) → HasNoLineFeed count bytes
-searched bytes count within none place less is =
-    let front : List ℕ = take count bytes in
-    let size : length front ≡ count = length-take-le count bytes within in
-    let past : length front ≤ position_or_len is_line_feed front = past_by front (nat_lt (position_or_len is_line_feed front) (length front)) (position_or_len is_line_feed front) refl none in
-    let fails : is_line_feed (get_or front place 0) ≡ false = fails_before_first is_line_feed front place 0 (omega (arith, size, past)) in
-    let same : get_or front place 0 ≡ 10 = get_or-take count bytes place 0 less ∙ is in
-    absurd (true≢false (sym (ap is_line_feed same) ∙ fails))
 
 -- before the first LF of a front no byte is LF
 pub searched_before : (bytes : List ℕ) (count place : ℕ) → count ≤ length bytes → Some place ≡ position (λ b. b == 10) (take count bytes) → (place < count) × HasNoLineFeed place bytes

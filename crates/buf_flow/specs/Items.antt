@@ -25,19 +25,19 @@ left_by EndOfFile call reader = after_item call reader
 left_by BufferLimit call reader = after_item call reader
 
 -- an answer without bytes leaves the reader as it was
-abbrev pub KeptUnlessBytes : (answer : Item) → (old new : Reader) → Type 0
-KeptUnlessBytes (Bytes bytes) old new = Unit {0}
-KeptUnlessBytes (Flag flag) old new = new ≡ old
-KeptUnlessBytes NeedMore old new = new ≡ old
-KeptUnlessBytes EndOfFile old new = new ≡ old
-KeptUnlessBytes BufferLimit old new = new ≡ old
-KeptUnlessBytes NoMemory old new = new ≡ old
+abbrev pub KeepsUnlessBytes : (answer : Item) → (old new : Reader) → Type 0
+KeepsUnlessBytes (Bytes bytes) old new = Unit {0}
+KeepsUnlessBytes (Flag flag) old new = new ≡ old
+KeepsUnlessBytes NeedMore old new = new ≡ old
+KeepsUnlessBytes EndOfFile old new = new ≡ old
+KeepsUnlessBytes BufferLimit old new = new ≡ old
+KeepsUnlessBytes NoMemory old new = new ≡ old
 
 -- a call was answered as the definition answers it by the bytes that were there, with what that leaves
 pub record Answers (call : ReaderCall) (answer : Item) (old new : Reader) : Type 0 where
   pub item : StandsFor answer (item call old)
   pub left : new ≡ left_by answer call old
-  pub kept : KeptUnlessBytes answer old new
+  pub kept : KeepsUnlessBytes answer old new
 
 -- these bytes were given and those are left, or memory ran out and the reader is as it was
 abbrev pub GivesOrNoMemory : (answer : Item) → (given left : List ℕ) → (old new : Reader) → Type 0

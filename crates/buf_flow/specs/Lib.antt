@@ -4,3 +4,4 @@ pub mod FlowReads
 pub mod Histories
 pub mod Items
 pub mod LineFeeds
+pub mod Moves

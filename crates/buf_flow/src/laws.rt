@@ -2,6 +2,7 @@
 //! clauses of [`crate::BufRead`] cite, and are stated in `specs/`; what proves them stands in the files of `proofs/`.
 ghost use Rattle.buf_flow.specs.Cuts.{CutsAlike, DecidedStays, EndDecides, GivenAsAtOnce, UndecidedLeaves};
 ghost use Rattle.buf_flow.specs.Histories.{HistoriesAlike, HistoriesAsAtOnce};
+ghost use Rattle.buf_flow.specs.Moves.{CallsEndByBytesToCome};
 
 /// What decides a call decides it the same with more bytes behind. Behind the end every call is decided. A call that isn't
 /// takes nothing.
@@ -22,4 +23,9 @@ pub fn cuts_alike()
 pub fn histories_alike()
     ensures at_once { HistoriesAsAtOnce }
     ensures alike { HistoriesAlike }
+{}
+
+/// The moves of a call over a flow end as the bytes to come say, however the flow is cut into steps and wherever it pauses.
+pub fn calls_end_by_bytes_to_come()
+    ensures { CallsEndByBytesToCome }
 {}

@@ -3,7 +3,7 @@
 //! What has left is not moved out at once: the queue knows how many bytes at the front of its memory have left, at
 //! most as many as are still there, and moves the rest down once it would be more. So each byte that leaves pays for
 //! the move of at most one byte. This is the invariant of `ByteQueue`.
-ghost use Rattle.std.specs.Prelude.{◌≡◌, ◌+◌, ◌≤◌, [], ◌++◌, length, drop, OnOk, OnErr};
+ghost use Rattle.std.specs.Prelude.{◌≡◌, ◌+◌, ◌<◌, ◌≤◌, [], ◌++◌, length, drop, OnOk, OnErr};
 
 use eio_value::NoMemory;
 use std::alloc::Global;
@@ -50,6 +50,7 @@ impl ByteQueue {
     pub(crate) fn put(&mut self, bytes: &[u8]) -> Result<(), NoMemory>
         ensures ok { OnOk result (self.new ≡ self.old ++ bytes.now) }
         ensures err { OnErr result (self.new ≡ self.old) }
+        ensures needs_bytes { OnErr result (0 < length bytes.now) }
     {
         self.bytes.extend_from_slice(bytes)?;
         Ok(())

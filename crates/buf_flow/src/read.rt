@@ -1,15 +1,14 @@
 //! What was read of a flow and isn't given yet. Clauses see it as a reader of the definitions that isn't shut.
 //!
-//! Each call answers as the definition does by the bytes that are there. The search for the end of a line goes on where
-//! the last one stopped: `BufRead` knows how many bytes at the front have no LF among them (`IsSearched`), so no byte is
-//! searched twice. What is given leaves the front of a [`ByteQueue`], which moves the rest only now and then. That
-//! the answers don't depend on how the bytes were cut is the law `cuts_alike`.
-ghost use Rattle.std.specs.Prelude.{◌≡◌, ◌≤◌, None, length, take, drop, pos, OnOk, OnErr, MatchBool};
+//! Each call answers as the definition does by the bytes that are there (`Answers`). No byte is searched for LF twice, and
+//! what is given leaves the front without moving the rest each time: that is kept by `SearchedBytes` and `ByteQueue`. That the
+//! answers don't depend on how the bytes were cut is the law [`crate::cuts_alike`].
+ghost use Rattle.std.specs.Prelude.{◌≡◌, ◌<◌, ◌≤◌, None, length, take, drop, pos, OnOk, OnErr, MatchBool};
 ghost use Rattle.row_model.specs.BytesToCome.{Line, TakeBytes, TakeAll, Char, AtEnd, line_end};
 ghost use Rattle.row_model.specs.Readers.{new_reader, feed, finish};
 
-use crate::line::{line_feed, line_len};
-use crate::queue::ByteQueue;
+use crate::line::line_len;
+use crate::searched::SearchedBytes;
 use eio_value::{Bytes, NoMemory};
 use std::alloc::Global;
 use std::marker::Model;
@@ -34,9 +33,7 @@ pub enum Item {
 #[derive(Drop)]
 pub struct BufRead {
     alloc: Global,
-    bytes: ByteQueue,
-    /// So many bytes at the front were searched, and none of them is LF.
-    searched: usize,
+    bytes: SearchedBytes,
     /// The most bytes that an answer may have.
     most: u32,
     /// Whether no more bytes come.
@@ -48,11 +45,9 @@ impl Model for BufRead {
 
     ghost Value = { Reader };
 
-    ghost use Rattle.buf_flow.specs.BufReadInside.{reader_of, IsSearched};
+    ghost use Rattle.buf_flow.specs.BufReadInside.{reader_of};
 
     ghost view = { reader_of };
-
-    ghost invariant = { IsSearched };
 }
 
 impl BufRead {
@@ -64,8 +59,7 @@ impl BufRead {
     {
         BufRead {
             alloc,
-            bytes: ByteQueue::new(alloc),
-            searched: 0,
+            bytes: SearchedBytes::new(alloc),
             most,
             over: false,
         }
@@ -75,6 +69,7 @@ impl BufRead {
     pub fn feed(&mut self, bytes: &[u8]) -> Result<(), NoMemory>
         ensures ok { OnOk result (self.new ≡ feed bytes.now self.old) }
         ensures err { OnErr result (self.new ≡ self.old) }
+        ensures needs_bytes { OnErr result (0 < length bytes.now) }
     {
         self.bytes.put(bytes)
     }
@@ -90,18 +85,12 @@ impl BufRead {
     pub fn line(&mut self) -> Item
         ensures { Answers Line result self.old self.new }
     {
-        let bytes = self.bytes.as_slice();
-        let end = bytes.len().min(self.most as usize + 1);
-        match line_feed(&bytes[..end], self.searched) {
+        match self.bytes.find_line_feed(self.most as usize + 1) {
             Some(place) => {
-                let count = line_len(&bytes[..place]);
-                self.searched = place;
+                let count = line_len(&self.bytes.as_slice()[..place]);
                 self.give(count, place + 1)
             }
-            None => {
-                self.searched = end;
-                self.unended_line()
-            }
+            None => self.unended_line(),
         }
     }
 
@@ -190,7 +179,6 @@ impl BufRead {
         match self.bytes.as_slice()[..count].to_vec(self.alloc) {
             Ok(given) => {
                 self.bytes.drop_front(used);
-                self.searched = self.searched.saturating_sub(used);
                 Item::Bytes(Bytes::new(given))
             }
             Err(_) => Item::NoMemory,

@@ -35,23 +35,29 @@ fn gives(item: &Item, want: &[u8]) -> bool {
 
 #[test]
 fn gives_bytes(rt: HostRuntime) -> Result<(), Fail> {
-    for (fed, most, call, want) in [
-        (b"abc\n", 4, Call::Take(2), b"ab".as_slice()),
-        (b"abc\n", 3, Call::Take(0), b""),
-        (b"abc\n", 4, Call::TakeAll, b"abc\n"),
-        (b"abc\n", 0, Call::Char, b"a"),
-        (b"abc\n", 3, Call::Line, b"abc"),
-        (b"ab\r\n", 3, Call::Line, b"ab"),
-        (b"a\r\r\n", 3, Call::Line, b"a\r"),
-        (b"abcd", 4, Call::Line, b"abcd"),
-        (b"abc\r", 4, Call::Line, b"abc\r"),
-        (b"\n\nab", 0, Call::Line, b""),
+    for (fed, most, call, want, rest) in [
+        (
+            b"abc".as_slice(),
+            4,
+            Call::Take(2),
+            b"ab".as_slice(),
+            b"c".as_slice(),
+        ),
+        (b"abc", 3, Call::Take(0), b"", b"abc"),
+        (b"abc", 3, Call::TakeAll, b"abc", b""),
+        (b"abc", 2, Call::Char, b"a", b"bc"),
+        (b"abc\n", 3, Call::Line, b"abc", b""),
+        (b"ab\r\nc", 3, Call::Line, b"ab", b"c"),
+        (b"a\r\r\n", 3, Call::Line, b"a\r", b""),
+        (b"abc\r", 4, Call::Line, b"abc\r", b""),
+        (b"\n", 0, Call::Line, b"", b""),
     ] {
         let mut reader = BufRead::new(rt.alloc(), most);
         reader.feed(fed)?;
         reader.finish();
         let item = answer(&mut reader, call);
         assert!(rt; gives(&item, want), "{call:?}");
+        assert!(rt; gives(&reader.take_all(), rest), "behind {call:?}");
     }
     Ok(())
 }

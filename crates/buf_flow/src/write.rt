@@ -1,5 +1,5 @@
 //! What was put and isn't written yet. Clauses see it as these bytes.
-ghost use Rattle.std.specs.Prelude.{◌≡◌, ◌≤◌, [], ◌++◌, length, OnOk, OnErr};
+ghost use Rattle.std.specs.Prelude.{◌≡◌, ◌<◌, ◌≤◌, [], ◌++◌, length, OnOk, OnErr};
 ghost use Rattle.row_model.specs.Writers.{took};
 
 use crate::queue::ByteQueue;
@@ -35,6 +35,7 @@ impl BufWrite {
     pub fn put(&mut self, bytes: &[u8]) -> Result<(), NoMemory>
         ensures ok { OnOk result (self.new ≡ self.old ++ bytes.now) }
         ensures err { OnErr result (self.new ≡ self.old) }
+        ensures needs_bytes { OnErr result (0 < length bytes.now) }
     {
         self.pending.put(bytes)
     }

@@ -11,8 +11,4 @@ pub mod SharedOperands
 pub mod SharedStatements
 pub mod SharedScripts
 pub mod Commands
-pub mod AlikeSteps
-pub mod AlikeOperands
-pub mod AlikeStatements
-pub mod AlikeScripts
 pub mod Unsound

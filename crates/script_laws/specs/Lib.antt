@@ -2,4 +2,3 @@ pub mod Numbers
 pub mod Soundness
 pub mod Sharing
 pub mod Readings
-pub mod Meanings

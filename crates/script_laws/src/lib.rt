@@ -3,7 +3,6 @@
 //! A law is stated in `specs/`, and what proves it stands in the files of `proofs/`.
 #![tactic(auto)]
 
-ghost use Rattle.script_laws.specs.Meanings.{ScriptsHaveNoPlaces};
 ghost use Rattle.script_laws.specs.Readings.{DomainScriptsAreShared, InputScriptsAreSound, MockedScriptsAreSound};
 ghost use Rattle.script_laws.specs.Readings.{ReadScriptsAreSound, SharedScriptsHaveNoMockedForm};
 
@@ -21,9 +20,4 @@ pub fn read_scripts_are_sound()
 pub fn shared_scripts_have_no_mocked_form()
     ensures trees { SharedScriptsHaveNoMockedForm }
     ensures domains { DomainScriptsAreShared }
-{}
-
-/// Trees that are the same but for their places are both scripts that mean the same, or neither is one.
-pub fn scripts_mean_the_same_without_places()
-    ensures { ScriptsHaveNoPlaces }
 {}
