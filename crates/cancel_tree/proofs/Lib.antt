@@ -1,0 +1,5 @@
+pub mod Changes
+pub mod Finding
+pub mod Listing
+pub mod Trees
+pub mod Waiting

@@ -1,0 +1,19 @@
+-- The waiting fibers as the code keeps them, in order of their numbers.
+use Rattle.std.specs.Prelude.{ℕ, ◌<◌, Bool, ◌==◌, List, [], ◌∷◌}
+use Rattle.std.specs.List.{list_any}
+use Rattle.row_model.specs.Contexts.{Waiting}
+use Rattle.cancel_tree.specs.declared.waiters.Entered.{Entered}
+
+-- the definition's waiting fiber
+abbrev pub waiting_of : Entered → Waiting
+waiting_of entered = record { fiber = entered.fiber; context = entered.context }
+
+-- each has a number above this
+abbrev pub AreAbove : ℕ → List Entered → Type 0
+AreAbove fiber [] = Unit {0}
+AreAbove fiber (first ∷ rest) = (fiber < first.fiber) × AreAbove fiber rest
+
+-- the numbers rise
+abbrev pub Rise : List Entered → Type 0
+Rise [] = Unit {0}
+Rise (first ∷ rest) = AreAbove first.fiber rest × Rise rest
