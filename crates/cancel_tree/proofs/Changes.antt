@@ -57,6 +57,13 @@ make_number context contexts e = by (is_full contexts) e
     by true e = absurd (true≢false e)
     by false e = refl
 
+pub make_full : (context : Context) (contexts : List Context) → is_full contexts ≡ true → (make context contexts).contexts ≡ contexts
+make_full context contexts e = by (is_full contexts) e
+  where
+    by : (full : Bool) → full ≡ true → (let answer : Made = elim full [ true ↦ record { number = None; contexts = contexts } | false ↦ record { number = Some (length contexts); contexts = contexts ++ context ∷ [] } ] in answer.contexts) ≡ contexts
+    by true e = refl
+    by false e = absurd (true≢false (sym e))
+
 pub make_contexts : (context : Context) (contexts : List Context) → is_full contexts ≡ false → (make context contexts).contexts ≡ contexts ++ context ∷ []
 make_contexts context contexts e = by (is_full contexts) e
   where
@@ -123,9 +130,10 @@ module _ (made : ℕ) (kept : Slab Kept) (places : List Place) (tree : IsTree ma
   pub parent_is_placed : (number : ℕ) (found : Option Place) → is_live (contexts_in made kept places) number ≡ true → found ≡ place_at places number
       → (option_map (λ (place : Place). place.number) found ≡ Some number) × ((p : Place) → found ≡ Some p → place_at places p.number ≡ Some p)
   parent_is_placed number found lives e =
-      let there = found_if found (ap is_some e ∙ sym (live_is_placed made kept places tree number) ∙ lives) in
-      (ap (option_map (λ (place : Place). place.number)) there.1 ∙ ap Some (place_at-number places number there.0 (sym e ∙ there.1)),
-       λ p f. at_own places number p (sym e ∙ f))
+      let there = found_if found (ap is_some e ∙ sym (live_is_placed made kept places tree number) ∙ lives) in (
+        ap (option_map (λ (place : Place). place.number)) there.1 ∙ ap Some (place_at-number places number there.0 (sym e ∙ there.1)),
+        λ p f. at_own places number p (sym e ∙ f),
+      )
 
   -- A reason
 
@@ -157,9 +165,9 @@ module _ (made : ℕ) (kept : Slab Kept) (places : List Place) (tree : IsTree ma
         | inr apart ↦ stays_standing made kept' places other (tree.stands x other e) (others other.key (keys_differ c x place other at e apart.1)) (λ parent e. refl)
       ];
       live =
-        ap live_count changed_list
-        ∙ live_count-set (contexts_in made kept places) c (context_of (Some changed)) (sym (ap (λ (context : Context). context.ended) (stands_there made kept places tree c place context at found)))
-        ∙ tree.live;
+          ap live_count changed_list
+          ∙ live_count-set (contexts_in made kept places) c (context_of (Some changed)) (sym (ap (λ (context : Context). context.ended) (stands_there made kept places tree c place context at found)))
+          ∙ tree.live;
       many = many ∙ tree.many;
       room = subst (λ n. 4096 ≤ n) (sym room) tree.room;
     }
@@ -254,16 +262,17 @@ module _ (made : ℕ) (kept : Slab Kept) (places : List Place) (tree : IsTree ma
       below = AreBelow-next made places new_place tree.below refl;
       stands = λ x place e. elim (eqb_tells x made) [ inl same ↦ stands_new x place e same.1 | inr apart ↦ stands_old x place e apart.1 ];
       live =
-        ap live_count made_list
-        ∙ live_count-append (contexts_in made kept places) (context_of (Some new_kept)) refl
-        ∙ ap (λ n. n + 1) tree.live
-        ∙ sym more_many;
+          ap live_count made_list
+          ∙ live_count-append (contexts_in made kept places) (context_of (Some new_kept)) refl
+          ∙ ap (λ n. n + 1) tree.live
+          ∙ sym more_many;
       many = many ∙ ap (λ n. n + 1) tree.many ∙ sym more_many;
       room = subst (λ n. 4096 ≤ n) (sym room) tree.room;
     }
       where
         parent_stays : (p : Place) → place_at places p.number ≡ Some p → place_at more p.number ≡ Some p
         parent_stays p e = place_at-append_other places new_place p.number (λ same. let below : p.number < made = below_found made places p.number p tree.below e in absurd (omega arith)) ∙ e
+
         stands_new : (x : ℕ) (place : Place) → place_at more x ≡ Some place → x ≡ made → Stands (made + 1) kept' more place
         stands_new x place e same =
             let one : new_place ≡ place = (let h : place_at more x ≡ place_at more made = ap (place_at more) same in let g : place_at more made ≡ Some new_place = new_there in cc) in
@@ -274,6 +283,7 @@ module _ (made : ℕ) (kept : Slab Kept) (places : List Place) (tree : IsTree ma
               older = λ p e. below_found made places p.number p tree.below (placed p e);
               placed = λ p e. parent_stays p (placed p e);
             }
+
         stands_old : (x : ℕ) (place : Place) → place_at more x ≡ Some place → x ≢ made → Stands (made + 1) kept' more place
         stands_old x place e apart =
             let before : place_at places x ≡ Some place = sym (place_at-append_other places new_place x (λ same. apart (sym same))) ∙ e in
@@ -330,15 +340,16 @@ module _ (made : ℕ) (kept : Slab Kept) (places : List Place) (tree : IsTree ma
       below = AreBelow-rest made places i tree.below;
       stands = stands_left;
       live =
-        (let before : live_count (contexts_in made kept places) ≡ length places = tree.live in
-         let after : live_count (slice_set (contexts_in made kept places) c never_made) + 1 ≡ live_count (contexts_in made kept places) = live_count-end (contexts_in made kept places) c never_made gone_lives refl in
-         ap live_count ended_list ∙ same_less _ _ (after ∙ before ∙ sym count));
+          (let before : live_count (contexts_in made kept places) ≡ length places = tree.live in
+          let after : live_count (slice_set (contexts_in made kept places) c never_made) + 1 ≡ live_count (contexts_in made kept places) = live_count-end (contexts_in made kept places) c never_made gone_lives refl in
+          ap live_count ended_list ∙ same_less _ _ (after ∙ before ∙ sym count));
       many = (let before : slab_len kept ≡ length places = tree.many in same_less _ _ (many ∙ before ∙ sym count));
       room = subst (λ n. 4096 ≤ n) (sym room) tree.room;
     }
       where
         same_less : (a b : ℕ) → a + 1 ≡ b + 1 → a ≡ b
         same_less a b e = omega arith
+
         stands_left : (x : ℕ) (place : Place) → place_at fewer x ≡ Some place → Stands made kept' fewer place
         stands_left x place e = elim (eqb_tells x c) [
           | inl same ↦ (let h : place_at fewer x ≡ place_at fewer c = ap (place_at fewer) same.1 in let g : place_at fewer c ≡ None = gone_there in cc)

@@ -1,5 +1,6 @@
 pub mod Changes
 pub mod Finding
+pub mod Forgotten
 pub mod Listing
 pub mod Trees
 pub mod Waiting

@@ -186,11 +186,13 @@ module _ (made : ℕ) (kept : Slab Kept) (places : List Place) (tree : IsTree ma
           ∙ ap (λ (at : Context). or_else at.reason (off_above (contexts_in made kept places) place.number)) (stands_there place.number place context goes.0 found)
           ∙ no_reason context.reason _ none
           ∙ ap (off_from (contexts_in made kept places)) (above_there place.number place context goes.0 found)
+
       by : (next : Option Place) → kept_above context ≡ next → OffGoesOn (contexts_in made kept places) places c next
       by None e = walked ∙ ap (λ next. off_from (contexts_in made kept places) (option_map (λ (place : Place). place.number) next)) e
-      by (Some parent) e =
-          (kept_placed place.number place context goes.0 found parent (unprotected context.protected context.parent parent e),
-           walked ∙ ap (λ next. off_from (contexts_in made kept places) (option_map (λ (place : Place). place.number) next)) e)
+      by (Some parent) e = (
+        kept_placed place.number place context goes.0 found parent (unprotected context.protected context.parent parent e),
+        walked ∙ ap (λ next. off_from (contexts_in made kept places) (option_map (λ (place : Place). place.number) next)) e,
+      )
 
   pub lower_next : (place : Place) (context : Kept) → place_at places place.number ≡ Some place → get kept place.key ≡ Some context → height (kept_above context) < height (Some place)
   lower_next place context at found = by (kept_above context) refl
@@ -249,8 +251,10 @@ module _ (made : ℕ) (kept : Slab Kept) (places : List Place) (tree : IsTree ma
           goes.1
           ∙ up_walks place.number c (λ e. absurd (omega arith))
           ∙ ap (up_from (contexts_in made kept places) c) (above_there place.number place context goes.0 found)
+
       by : (next : Option Place) → kept_above context ≡ next → UpGoesOn (contexts_in made kept places) places x c next
       by None e = walked ∙ ap (λ next. up_from (contexts_in made kept places) c (option_map (λ (place : Place). place.number) next)) e
-      by (Some parent) e =
-          (kept_placed place.number place context goes.0 found parent (unprotected context.protected context.parent parent e),
-           walked ∙ ap (λ next. up_from (contexts_in made kept places) c (option_map (λ (place : Place). place.number) next)) e)
+      by (Some parent) e = (
+        kept_placed place.number place context goes.0 found parent (unprotected context.protected context.parent parent e),
+        walked ∙ ap (λ next. up_from (contexts_in made kept places) c (option_map (λ (place : Place). place.number) next)) e,
+      )

@@ -1,6 +1,7 @@
 pub mod Ended
 pub mod Endings
 pub mod Entered
+pub mod Forgetting
 pub mod Kept
 pub mod Places
 pub mod Waits

@@ -2,8 +2,12 @@
 #![tactic(auto)]
 
 mod contexts;
+mod forgetting;
 mod kept;
+#[cfg(test)]
+mod tests;
 mod tree;
 mod waiters;
 
 pub use contexts::Contexts;
+pub use forgetting::forgets_nothing_live;

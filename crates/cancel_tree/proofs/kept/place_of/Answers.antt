@@ -10,7 +10,7 @@ use Rattle.cancel_tree.proofs.kept.place_of.Goals.{After-partition_point-index, 
 parts : (c : After-partition_point-index) → Parts c.args.c c.args.places.now c.partition_point-index.result
 parts c =
     let found = IsPartitionPoint-from_clause (λ (place : Place). nat_lt place.number c.args.c) c.args.places.now c.partition_point-index.result
-          c.partition_point-index.ensures.partitioned (first_are_lower c.args.c _ c.requires) (λ a r f' k. search rules) in
+    c.partition_point-index.ensures.partitioned (first_are_lower c.args.c _ c.requires) (λ a r f' k. search rules) in
     record { within = c.partition_point-index.ensures.bound; before = found.0; behind = found.1 }
 
 -- what stands there is what is looked for, if it has the number

@@ -31,9 +31,10 @@ index_mut-requires c =
     has_value _ there.0 there.1
 
 pub invariant_of-self : goal.invariant_of-self
-invariant_of-self c =
-    (cancelled_tree c.self.inside.made c.self.inside.kept c.self.inside.places.items c.self.invariant.0 c.args.c c.in-Some.place c.index_mut.result.now c.args.why (at (goal.at.invariant_of-self c).In-Some) c.index_mut.ensures.value,
-     c.self.invariant.1)
+invariant_of-self c = (
+  cancelled_tree c.self.inside.made c.self.inside.kept c.self.inside.places.items c.self.invariant.0 c.args.c c.in-Some.place c.index_mut.result.now c.args.why (at (goal.at.invariant_of-self c).In-Some) c.index_mut.ensures.value,
+  c.self.invariant.1,
+)
 
 pub returns-clause-took : goal.returns-clause-took
 returns-clause-took c =

@@ -17,7 +17,7 @@ use Rattle.cancel_tree.proofs.tree.Tree.end.Goals.{After-partition_point-index, 
 parts : (c : After-partition_point-index) → Parts c.args.c c.self.inside.places.items c.partition_point-index.result
 parts c =
     let found = IsPartitionPoint-from_clause (λ (place : Place). nat_lt place.number c.args.c) c.deref.result.now c.partition_point-index.result
-          c.partition_point-index.ensures.partitioned (rw c.deref.ensures.value (first_are_lower c.args.c _ c.self.invariant.0.rise)) (λ a r f' k. search rules) in
+    c.partition_point-index.ensures.partitioned (rw c.deref.ensures.value (first_are_lower c.args.c _ c.self.invariant.0.rise)) (λ a r f' k. search rules) in
     subst (λ places. Parts c.args.c places c.partition_point-index.result) c.deref.ensures.value (record { within = c.partition_point-index.ensures.bound; before = found.0; behind = found.1 })
 
 -- the place of c, which stands at the index
@@ -59,20 +59,21 @@ invariant_of-self c =
     let room : 4096 ≤ vec_capacity c.self.inside.places = c.self.invariant.1 in
     let same : vec_capacity c.remove-place.new.self ≡ vec_capacity c.self.inside.places = c.remove-place.ensures.capacity in
     let count : length (rest_of c.self.inside.places.items c.partition_point-index.result) + 1 ≡ length c.self.inside.places.items =
-          (let a : c.remove-place.new.self.len + 1 ≡ c.self.inside.places.len = c.remove-place.ensures.len in
-           let b : c.remove-place.new.self.len ≡ length c.remove-place.new.self.items = c.remove-place.new.self.ok.0 in
-           let d : c.self.inside.places.len ≡ length c.self.inside.places.items = c.self.inside.places.ok.0 in
-           let e : length c.remove-place.new.self.items ≡ length (rest_of c.self.inside.places.items c.partition_point-index.result) = ap length c.remove-place.ensures.items in
-           omega arith) in
-    (rw c.remove-place.ensures.items
-     (ended_tree c.self.inside.made c.self.inside.kept c.self.inside.places.items c.self.invariant.0 c.args.c c.partition_point-index.result c.remove-place.result c.remove.new.self at.0 at.1
-      c.remove.ensures.updates (subst (λ contexts. HasNoLiveChild contexts c.args.c) (sym c.self.view_is) c.requires.childless) count c.remove.ensures.len c.remove.ensures.capacity),
-     omega arith)
+    (let a : c.remove-place.new.self.len + 1 ≡ c.self.inside.places.len = c.remove-place.ensures.len in
+    let b : c.remove-place.new.self.len ≡ length c.remove-place.new.self.items = c.remove-place.new.self.ok.0 in
+    let d : c.self.inside.places.len ≡ length c.self.inside.places.items = c.self.inside.places.ok.0 in
+    let e : length c.remove-place.new.self.items ≡ length (rest_of c.self.inside.places.items c.partition_point-index.result) = ap length c.remove-place.ensures.items in
+    omega arith) in (
+      rw c.remove-place.ensures.items
+          (ended_tree c.self.inside.made c.self.inside.kept c.self.inside.places.items c.self.invariant.0 c.args.c c.partition_point-index.result c.remove-place.result c.remove.new.self at.0 at.1
+          c.remove.ensures.updates (subst (λ contexts. HasNoLiveChild contexts c.args.c) (sym c.self.view_is) c.requires.childless) count c.remove.ensures.len c.remove.ensures.capacity),
+      omega arith,
+    )
 
 pub returns : goal.returns
 returns c =
     let at = at_removed (goal.at.returns c).After-remove-place (placed (goal.at.returns c).After-partition_point-index) in
     ap (contexts_in c.self.inside.made c.remove.new.self) c.remove-place.ensures.items
     ∙ ended_list c.self.inside.made c.self.inside.kept c.self.inside.places.items c.self.invariant.0 c.args.c c.partition_point-index.result c.remove-place.result c.remove.new.self at.0 at.1
-      c.remove.ensures.updates (subst (λ contexts. HasNoLiveChild contexts c.args.c) (sym c.self.view_is) c.requires.childless)
+    c.remove.ensures.updates (subst (λ contexts. HasNoLiveChild contexts c.args.c) (sym c.self.view_is) c.requires.childless)
     ∙ ap (without c.args.c) c.self.view_is

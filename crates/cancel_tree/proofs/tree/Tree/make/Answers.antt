@@ -28,12 +28,13 @@ parent_found c = elim c.match-parent.branch [
 pub invariant_of-self : goal.invariant_of-self
 invariant_of-self c =
     let grown : vec_capacity c.self.inside.places ≤ vec_capacity c.push.new.self = c.push.ensures.capacity in
-    let room : 4096 ≤ vec_capacity c.self.inside.places = c.self.invariant.1 in
-    (rw c.in_default.ensures.items
-     (made_tree c.self.inside.made c.self.inside.kept c.self.inside.places.items c.self.invariant.0 c.insert_reserved-key.result c.match-parent.above c.args.protected c.insert_reserved-key.new.self
-      c.insert_reserved-key.ensures.was_vacant c.insert_reserved-key.ensures.updates (parent_found (goal.at.invariant_of-self c).Joined-parent).1
-      c.insert_reserved-key.ensures.len c.insert_reserved-key.ensures.capacity),
-     omega arith)
+    let room : 4096 ≤ vec_capacity c.self.inside.places = c.self.invariant.1 in (
+      rw c.in_default.ensures.items
+          (made_tree c.self.inside.made c.self.inside.kept c.self.inside.places.items c.self.invariant.0 c.insert_reserved-key.result c.match-parent.above c.args.protected c.insert_reserved-key.new.self
+          c.insert_reserved-key.ensures.was_vacant c.insert_reserved-key.ensures.updates (parent_found (goal.at.invariant_of-self c).Joined-parent).1
+          c.insert_reserved-key.ensures.len c.insert_reserved-key.ensures.capacity),
+      omega arith,
+    )
 
 has_room : (c : Else-len-ge-MOST_CONTEXTS) → is_full c.args.self.now ≡ false
 has_room c =
@@ -50,7 +51,7 @@ pub returns-clause-after : goal.returns-clause-after
 returns-clause-after c =
     ap (contexts_in (c.self.inside.made + 1) c.insert_reserved-key.new.self) c.in_default.ensures.items
     ∙ made_list c.self.inside.made c.self.inside.kept c.self.inside.places.items c.self.invariant.0 c.insert_reserved-key.result c.match-parent.above c.args.protected c.insert_reserved-key.new.self
-      c.insert_reserved-key.ensures.was_vacant c.insert_reserved-key.ensures.updates (parent_found (goal.at.returns-clause-after c).Joined-parent).1
+    c.insert_reserved-key.ensures.was_vacant c.insert_reserved-key.ensures.updates (parent_found (goal.at.returns-clause-after c).Joined-parent).1
     ∙ ap (λ parent. contexts_in c.self.inside.made c.self.inside.kept c.self.inside.places.items ++ new_context parent c.args.protected ∷ []) (parent_found (goal.at.returns-clause-after c).Joined-parent).0
     ∙ ap (λ contexts. contexts ++ new_context c.args.parent c.args.protected ∷ []) c.self.view_is
     ∙ sym (make_contexts (new_context c.args.parent c.args.protected) c.args.self.now (has_room (goal.at.returns-clause-after c).Else-len-ge-MOST_CONTEXTS))

@@ -9,15 +9,17 @@ invariant_of-result c =
     let items = c.in_ok-with_capacity-2.ensures.items in
     let room = c.in_ok-with_capacity-2.ensures.capacity in
     let empty = c.in_ok-with_capacity.ensures.empty in
-    let big = c.in_ok-with_capacity.ensures.capacity in
-    (rw items record {
-      rise = tt;
-      below = tt;
-      stands = λ n place e. cc;
-      live = refl;
-      many = rw empty refl;
-      room = big;
-    }, room)
+    let big = c.in_ok-with_capacity.ensures.capacity in (
+      rw items record {
+        rise = tt;
+        below = tt;
+        stands = λ n place e. cc;
+        live = refl;
+        many = rw empty refl;
+        room = big;
+      },
+      room,
+    )
 
 pub returns : goal.returns
 unfolding contexts_in listed

@@ -13,7 +13,7 @@ use Rattle.cancel_tree.proofs.waiters.Waiters.enter.Goals.{After-partition_point
 parts : (c : After-partition_point-index) → Parts c.args.fiber c.self.inside.entered.items c.partition_point-index.result
 parts c =
     let found = IsPartitionPoint-from_clause (λ (entered : Entered). nat_lt entered.fiber c.args.fiber) c.deref.result.now c.partition_point-index.result
-          c.partition_point-index.ensures.partitioned (rw c.deref.ensures.value (first_are_lower c.args.fiber _ c.self.invariant.0)) (λ a r f' k. search rules) in
+    c.partition_point-index.ensures.partitioned (rw c.deref.ensures.value (first_are_lower c.args.fiber _ c.self.invariant.0)) (λ a r f' k. search rules) in
     subst (λ xs. Parts c.args.fiber xs c.partition_point-index.result) c.deref.ensures.value (record { within = c.partition_point-index.ensures.bound; before = found.0; behind = found.1 })
 
 out : (c : After-partition_point-index) → waits c.args.fiber (map waiting_of c.self.inside.entered.items) ≡ false
