@@ -8,6 +8,7 @@ use Rattle.std.proofs.lemmas.Bool.Decides.{eqb_tells}
 use Rattle.eio_value.specs.declared.plain.Plain.{Plain}
 use Rattle.slab.specs.Slab.{Slab, get, slab_len, with_value, Updates}
 use Rattle.row_model.specs.Contexts.{Context, never_made, context_at, is_live, live_count, is_full, Made, make, off, takes_effect, cancel}
+use Rattle.cancel_tree.specs.declared.kept.Jump.{Jump}
 use Rattle.cancel_tree.specs.declared.kept.Kept.{Kept}
 use Rattle.cancel_tree.specs.declared.kept.Place.{Place}
 use Rattle.cancel_tree.specs.Places.{place_at}
@@ -19,12 +20,12 @@ use Rattle.cancel_tree.proofs.Trees.{stands_there, live_is_placed, at_own}
 
 -- A value of a slab changes
 
-same_there : (slots : List (Option Kept)) (key : ℕ) (old new : Kept) → get_or slots key None ≡ Some old → get_or (slice_set slots key (Some new)) key None ≡ Some new
+pub same_there : (slots : List (Option Kept)) (key : ℕ) (old new : Kept) → get_or slots key None ≡ Some old → get_or (slice_set slots key (Some new)) key None ≡ Some new
 same_there [] key old new e = cc
 same_there (slot ∷ slots) zero old new e = refl
 same_there (slot ∷ slots) (suc key) old new e = same_there slots key old new e
 
-others_there : (slots : List (Option Kept)) (key other : ℕ) (new : Option Kept) → other ≢ key → get_or (slice_set slots key new) other None ≡ get_or slots other None
+pub others_there : (slots : List (Option Kept)) (key other : ℕ) (new : Option Kept) → other ≢ key → get_or (slice_set slots key new) other None ≡ get_or slots other None
 others_there [] key other new apart = refl
 others_there (slot ∷ slots) zero zero new apart = absurd (apart refl)
 others_there (slot ∷ slots) zero (suc other) new apart = refl
@@ -208,19 +209,19 @@ module _ (made : ℕ) (kept : Slab Kept) (places : List Place) (tree : IsTree ma
 
   -- One more
 
-  module _ (key : ℕ) (parent : Option Place) (protected : Bool) (kept' : Slab Kept) (vacant : get kept key ≡ None)
-      (updates : Updates kept kept' key (Some (record { number = made; parent = parent; protected = protected; reason = None })))
+  module _ (key : ℕ) (parent : Option Place) (protected : Bool) (jump : Option Jump) (kept' : Slab Kept) (vacant : get kept key ≡ None)
+      (updates : Updates kept kept' key (Some (record { number = made; parent = parent; protected = protected; reason = None; jump = jump })))
       (placed : (p : Place) → parent ≡ Some p → place_at places p.number ≡ Some p) where
     abbrev pub new_place : Place
     new_place = record { number = made; key = key }
 
-    abbrev new_kept : Kept
-    new_kept = record { number = made; parent = parent; protected = protected; reason = None }
+    abbrev pub new_kept : Kept
+    new_kept = record { number = made; parent = parent; protected = protected; reason = None; jump = jump }
 
-    abbrev more : List Place
+    abbrev pub more : List Place
     more = places ++ new_place ∷ []
 
-    key_is_new : (x : ℕ) (place : Place) → place_at places x ≡ Some place → place.key ≢ key
+    pub key_is_new : (x : ℕ) (place : Place) → place_at places x ≡ Some place → place.key ≢ key
     key_is_new x place e same =
         let there : Stands made kept places place = tree.stands x place e in
         let f : get kept place.key ≡ Some there.context = there.found in
@@ -242,10 +243,10 @@ module _ (made : ℕ) (kept : Slab Kept) (places : List Place) (tree : IsTree ma
     no_place_yet : place_at places made ≡ None
     no_place_yet = absent_past made made places (omega arith) tree.below
 
-    new_there : place_at more made ≡ Some new_place
+    pub new_there : place_at more made ≡ Some new_place
     new_there = place_at-append_itself places new_place made refl no_place_yet
 
-    pub made_list : contexts_in (made + 1) kept' more ≡ contexts_in made kept places ++ context_of (Some (record { number = made; parent = parent; protected = protected; reason = None })) ∷ []
+    pub made_list : contexts_in (made + 1) kept' more ≡ contexts_in made kept places ++ context_of (Some (record { number = made; parent = parent; protected = protected; reason = None; jump = jump })) ∷ []
     unfolding contexts_in listed
     made_list =
         ap (λ n. listed n (λ x. context_of (kept_at kept' more x))) (add-one made)
@@ -296,16 +297,16 @@ module _ (made : ℕ) (kept : Slab Kept) (places : List Place) (tree : IsTree ma
   module _ (c i : ℕ) (gone : Place) (kept' : Slab Kept) (at : place_at places c ≡ Some gone) (there : slice_get places i ≡ Some gone)
       (updates : Updates kept kept' gone.key None)
       (childless : HasNoLiveChild (contexts_in made kept places) c) where
-    abbrev fewer : List Place
+    abbrev pub fewer : List Place
     fewer = rest_of places i
 
-    number_is : gone.number ≡ c
+    pub number_is : gone.number ≡ c
     number_is = place_at-number places c gone at
 
-    others_placed : (x : ℕ) → x ≢ c → place_at fewer x ≡ place_at places x
+    pub others_placed : (x : ℕ) → x ≢ c → place_at fewer x ≡ place_at places x
     others_placed x apart = place_at-rest_other places i gone x there (λ e. apart (sym e ∙ number_is))
 
-    gone_there : place_at fewer c ≡ None
+    pub gone_there : place_at fewer c ≡ None
     gone_there = place_at-rest_itself places i gone c tree.rise there number_is
 
     kept_others_left : (x : ℕ) → x ≢ c → context_of (kept_at kept places x) ≡ context_of (kept_at kept' fewer x)
@@ -327,7 +328,7 @@ module _ (made : ℕ) (kept : Slab Kept) (places : List Place) (tree : IsTree ma
     gone_lives = let stood : Stands made kept places gone = tree.stands c gone at in ap (λ (context : Context). context.ended) (stands_there made kept places tree c gone stood.context at stood.found)
 
     -- no context that is left has it as its parent
-    parent_left : (x : ℕ) (place : Place) (e : place_at places x ≡ Some place) (p : Place) → (tree.stands x place e).context.parent ≡ Some p → p.number ≢ c
+    pub parent_left : (x : ℕ) (place : Place) (e : place_at places x ≡ Some place) (p : Place) → (tree.stands x place e).context.parent ≡ Some p → p.number ≢ c
     parent_left x place e p parent same =
         let stood : Stands made kept places place = tree.stands x place e in
         let lives : is_live (contexts_in made kept places) x ≡ true = live_is_placed made kept places tree x ∙ ap is_some e in

@@ -1,6 +1,7 @@
 -- The tree as it is kept: what it says of each number, and the walks upwards.
 use Rattle.std.proofs.Common.{◌≡◌, ℕ, zero, suc, ◌+◌, ◌<◌, ◌≤◌, ◌≢◌, ◌⊎◌, inl, inr, Bool, true, false, not, ◌==◌, ◌||◌, List, [], ◌∷◌, length, Option, Some, None, arith, rules, refl, ap, ap₂, ◌∙◌, sym, true≢false}
-use Rattle.std.specs.Prelude.{is_some, IsSome}
+use Rattle.std.specs.Prelude.{is_some, IsSome, nat_le}
+use Rattle.std.proofs.lemmas.Grind.{common_steps}
 use Rattle.std.specs.List.{list_any}
 use Rattle.std.specs.Option.{option_map, option_and_then}
 use Rattle.std.proofs.lemmas.Bool.Decides.{eqb_tells}
@@ -10,21 +11,22 @@ use Rattle.slab.specs.Slab.{Slab, get}
 use Rattle.row_model.specs.Contexts.{Context, never_made, context_at, is_live, above, off, way_within, goes_up_to}
 use Rattle.model_laws.specs.Contexts.{or_else, off_above}
 use Rattle.model_laws.proofs.Walks.{ParentsAreOlder, above_is_parent, off_walks, goes_up_walks}
+use Rattle.cancel_tree.specs.declared.kept.Jump.{Jump}
 use Rattle.cancel_tree.specs.declared.kept.Kept.{Kept}
 use Rattle.cancel_tree.specs.declared.kept.Place.{Place}
+use Rattle.cancel_tree.specs.Jumps.{kept_above, kept_towards, JumpsTo, HasJumps}
 use Rattle.cancel_tree.specs.Places.{place_at}
 use Rattle.cancel_tree.specs.Kept.{kept_at, context_of, listed, contexts_in, Stands, IsTree}
 use Rattle.cancel_tree.proofs.Finding.{place_at-number, absent_past, tells_other, tells_same}
 use Rattle.cancel_tree.proofs.Listing.{compared, listed_below, listed_past}
 
--- one step up from what is kept
-abbrev pub kept_above : Kept → Option Place
-kept_above kept = elim kept.protected [ true ↦ None | false ↦ kept.parent ]
-
 -- how far a walk may still go
 abbrev pub height : Option Place → ℕ
 height None = 0
 height (Some place) = place.number + 1
+
+at_most : (a b : ℕ) → nat_le a b ≡ true → a ≤ b
+at_most a b h = grind (arith, common_steps)
 
 pub has_value : {X : Type 0} (o : Option X) (x : X) → o ≡ Some x → IsSome o
 has_value o x e = rw e (search rules)
@@ -258,3 +260,31 @@ module _ (made : ℕ) (kept : Slab Kept) (places : List Place) (tree : IsTree ma
         kept_placed place.number place context goes.0 found parent (unprotected context.protected context.parent parent e),
         walked ∙ ap (λ next. up_from (contexts_in made kept places) c (option_map (λ (place : Place). place.number) next)) e,
       )
+
+  -- by a jump too, where it doesn't pass c
+  pub up_goes_towards : (x c : ℕ) (place : Place) (context : Kept) → HasJumps made kept places → UpGoesOn (contexts_in made kept places) places x c (Some place) → get kept place.key ≡ Some context → c < place.number
+      → UpGoesOn (contexts_in made kept places) places x c (kept_towards c context)
+  up_goes_towards x c place context has goes found younger = by context.jump refl
+    where
+      step : UpGoesOn (contexts_in made kept places) places x c (kept_above context)
+      step = up_goes_on x c place context goes found younger
+      by_test : (jump : Jump) (test : Bool) → context.jump ≡ Some jump → nat_le c jump.place.number ≡ test → UpGoesOn (contexts_in made kept places) places x c (elim test [ true ↦ Some jump.place | false ↦ kept_above context ])
+      by_test jump true e t =
+          let jumps : JumpsTo (contexts_in made kept places) places place.number jump.place = has.jumps place.number place context goes.0 found jump e in
+          (jumps.placed, goes.1 ∙ jumps.alike c (at_most c jump.place.number t))
+      by_test jump false e t = step
+      by : (jump : Option Jump) → context.jump ≡ jump → UpGoesOn (contexts_in made kept places) places x c (elim jump [ None ↦ kept_above context | Some jump ↦ elim (nat_le c jump.place.number) [ true ↦ Some jump.place | false ↦ kept_above context ] ])
+      by None e = step
+      by (Some jump) e = by_test jump (nat_le c jump.place.number) e refl
+
+  pub lower_towards : (c : ℕ) (place : Place) (context : Kept) → HasJumps made kept places → place_at places place.number ≡ Some place → get kept place.key ≡ Some context → height (kept_towards c context) < height (Some place)
+  lower_towards c place context has at found = by context.jump refl
+    where
+      step : height (kept_above context) < height (Some place)
+      step = lower_next place context at found
+      by_test : (jump : Jump) (test : Bool) → context.jump ≡ Some jump → height (elim test [ true ↦ Some jump.place | false ↦ kept_above context ]) < height (Some place)
+      by_test jump true e = let lower : jump.place.number < place.number = (has.jumps place.number place context at found jump e).further in omega arith
+      by_test jump false e = step
+      by : (jump : Option Jump) → context.jump ≡ jump → height (elim jump [ None ↦ kept_above context | Some jump ↦ elim (nat_le c jump.place.number) [ true ↦ Some jump.place | false ↦ kept_above context ] ]) < height (Some place)
+      by None e = step
+      by (Some jump) e = by_test jump (nat_le c jump.place.number) e

@@ -1,7 +1,9 @@
 //! The contexts of a domain.
 //!
 //! The live ones are kept in a slab, and their numbers, in order, with the slab's keys: a number is found by halving, and
-//! each step of a walk upwards takes constant time, since a context knows where its parent is kept. The invariant is `IsTree`.
+//! each step of a walk upwards takes constant time, since a context knows where its parent is kept. The walk to a given context
+//! also takes the jumps that each context knows, which are chosen so that few lie on any way. The invariants are `IsTree` and
+//! `HasJumps`.
 //! The theorems are the clauses of the methods of [`Tree`], by `row_model`'s `Contexts`.
 
 ghost use Rattle.std.specs.Prelude.{◌≡◌, ◌<◌, ◌-◌, ◌^◌, [], length, true, IfOk};
@@ -10,7 +12,7 @@ ghost use Rattle.std.specs.Result.{result_ok};
 ghost use Rattle.row_model.specs.Contexts as contexts;
 ghost use Rattle.cancel_tree.specs.Endings.{HasNoLiveChild, without};
 
-use crate::kept::{Kept, Place, place_of};
+use crate::kept::{Kept, Place, jump_of, place_of};
 use eio_value::{Full, NoMemory, Plain};
 use slab::Slab;
 use std::alloc::Global;
@@ -37,10 +39,11 @@ impl Model for Tree {
     ghost Value = { List Context };
 
     ghost use Rattle.cancel_tree.specs.Kept.{contexts_in, IsTree};
+    ghost use Rattle.cancel_tree.specs.Jumps.{HasJumps};
 
     ghost view = { λ t. contexts_in t.made t.kept t.places.items };
 
-    ghost invariant = { λ t. IsTree t.made t.kept t.places.items × (4096 ≤ vec_capacity t.places) };
+    ghost invariant = { λ t. IsTree t.made t.kept t.places.items × (4096 ≤ vec_capacity t.places) × HasJumps t.made t.kept t.places.items };
 }
 
 impl Tree {
@@ -89,7 +92,7 @@ impl Tree {
             if place.number <= c {
                 return place.number == c;
             }
-            next = self.kept[place.key].above();
+            next = self.kept[place.key].towards(c);
         }
         false
     }
@@ -123,12 +126,14 @@ impl Tree {
             Some(number) => place_of(&self.places, number),
             None => None,
         };
+        let jump = jump_of(&self.kept, above, protected);
         let number = self.made;
         let key = self.kept.insert_reserved(Kept {
             number,
             parent: above,
             protected,
             reason: None,
+            jump,
         });
         if let Err(_) = self.places.push(Place { number, key }) {
             unreachable!()

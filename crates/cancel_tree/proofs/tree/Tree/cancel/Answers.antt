@@ -3,6 +3,7 @@ use Rattle.std.specs.Prelude.{is_some}
 use Rattle.row_model.specs.Contexts.{Context, is_live, off, takes_effect, cancel}
 use Rattle.cancel_tree.specs.Kept.{contexts_in}
 use Rattle.cancel_tree.specs.Places.{place_at}
+use Rattle.cancel_tree.proofs.Jumping.{jumps_cancelled}
 use Rattle.cancel_tree.proofs.Changes.{cancelled_tree, cancelled_list, takes, takes_not_live, cancel_none}
 use Rattle.cancel_tree.proofs.Trees.{live_is_placed, is_there, has_value, at_own}
 use Rattle.cancel_tree.proofs.tree.Tree.cancel.Goals as goal
@@ -34,6 +35,7 @@ pub invariant_of-self : goal.invariant_of-self
 invariant_of-self c = (
   cancelled_tree c.self.inside.made c.self.inside.kept c.self.inside.places.items c.self.invariant.0 c.args.c c.in-Some.place c.index_mut.result.now c.args.why (at (goal.at.invariant_of-self c).In-Some) c.index_mut.ensures.value,
   c.self.invariant.1,
+  jumps_cancelled c.self.inside.made c.self.inside.kept c.self.inside.places.items c.self.invariant.0 c.self.invariant.2 c.args.c c.in-Some.place c.index_mut.result.now c.args.why (at (goal.at.invariant_of-self c).In-Some) c.index_mut.ensures.value,
 )
 
 pub returns-clause-took : goal.returns-clause-took

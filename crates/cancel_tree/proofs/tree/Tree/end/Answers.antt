@@ -8,6 +8,7 @@ use Rattle.cancel_tree.specs.Kept.{contexts_in}
 use Rattle.cancel_tree.specs.Places.{place_at}
 use Rattle.cancel_tree.specs.Endings.{HasNoLiveChild, without}
 use Rattle.cancel_tree.proofs.Finding.{Parts, first_are_lower, place_found, at_index, slice_get-at, slice_get-within, rest_of, FoundAt}
+use Rattle.cancel_tree.proofs.Jumping.{jumps_left}
 use Rattle.cancel_tree.proofs.Changes.{ended_tree, ended_list, found_if}
 use Rattle.cancel_tree.proofs.Trees.{live_is_placed, is_there, has_value, at_own}
 use Rattle.cancel_tree.proofs.tree.Tree.end.Goals as goal
@@ -68,6 +69,9 @@ invariant_of-self c =
           (ended_tree c.self.inside.made c.self.inside.kept c.self.inside.places.items c.self.invariant.0 c.args.c c.partition_point-index.result c.remove-place.result c.remove.new.self at.0 at.1
           c.remove.ensures.updates (subst (λ contexts. HasNoLiveChild contexts c.args.c) (sym c.self.view_is) c.requires.childless) count c.remove.ensures.len c.remove.ensures.capacity),
       omega arith,
+      rw c.remove-place.ensures.items
+          (jumps_left c.self.inside.made c.self.inside.kept c.self.inside.places.items c.self.invariant.0 c.self.invariant.2 c.args.c c.partition_point-index.result c.remove-place.result c.remove.new.self at.0 at.1
+          c.remove.ensures.updates (subst (λ contexts. HasNoLiveChild contexts c.args.c) (sym c.self.view_is) c.requires.childless)),
     )
 
 pub returns : goal.returns

@@ -2,7 +2,7 @@ use Rattle.std.proofs.Common.{rules, ◌≡◌, Some, None, ◌∙◌, sym, ap, 
 use Rattle.row_model.specs.Contexts.{Context, goes_up_to}
 use Rattle.cancel_tree.specs.Kept.{contexts_in}
 use Rattle.cancel_tree.specs.Places.{place_at}
-use Rattle.cancel_tree.proofs.Trees.{UpGoesOn, height, up_begins, up_ends, up_goes_on, goes_up_to_itself, lower_next, is_there, has_value}
+use Rattle.cancel_tree.proofs.Trees.{UpGoesOn, height, up_begins, up_ends, up_goes_towards, goes_up_to_itself, lower_towards, is_there, has_value}
 use Rattle.cancel_tree.proofs.tree.Tree.goes_up_to.Goals as goal
 use Rattle.cancel_tree.proofs.tree.Tree.goes_up_to.Goals.{In-Some}
 
@@ -29,13 +29,13 @@ index-requires c =
 
 pub way-smaller : goal.way-smaller
 way-smaller c =
-    rw (c.above-next.ensures, c.in-Some.is)
-    (lower_next c.self.inside.made c.self.inside.kept c.self.inside.places.items c.self.invariant.0 c.in-Some.place c.index.result.now (going (goal.at.way-smaller c).In-Some).0 c.index.ensures)
+    rw (c.towards-next.ensures, c.in-Some.is)
+    (lower_towards c.self.inside.made c.self.inside.kept c.self.inside.places.items c.self.invariant.0 c.args.c c.in-Some.place c.index.result.now c.self.invariant.2 (going (goal.at.way-smaller c).In-Some).0 c.index.ensures)
 
 pub way-preserved : goal.way-preserved
 way-preserved c =
-    subst (UpGoesOn (contexts_in c.self.inside.made c.self.inside.kept c.self.inside.places.items) c.self.inside.places.items c.args.x c.args.c) (sym c.above-next.ensures)
-    (up_goes_on c.self.inside.made c.self.inside.kept c.self.inside.places.items c.self.invariant.0 c.args.x c.args.c c.in-Some.place c.index.result.now (going (goal.at.way-preserved c).In-Some) c.index.ensures c.if-place-c.false)
+    subst (UpGoesOn (contexts_in c.self.inside.made c.self.inside.kept c.self.inside.places.items) c.self.inside.places.items c.args.x c.args.c) (sym c.towards-next.ensures)
+    (up_goes_towards c.self.inside.made c.self.inside.kept c.self.inside.places.items c.self.invariant.0 c.args.x c.args.c c.in-Some.place c.index.result.now c.self.invariant.2 (going (goal.at.way-preserved c).In-Some) c.index.ensures c.if-place-c.false)
 
 pub returns : goal.returns
 returns c =

@@ -4,6 +4,8 @@ use Rattle.row_model.specs.Contexts.{Context, is_full, is_live, live_count, new_
 use Rattle.cancel_tree.specs.declared.kept.Place.{Place}
 use Rattle.cancel_tree.specs.Kept.{contexts_in}
 use Rattle.cancel_tree.specs.Places.{place_at}
+use Rattle.cancel_tree.specs.Jumps.{JumpsUnder}
+use Rattle.cancel_tree.proofs.Jumping.{jumps_made, if_some}
 use Rattle.cancel_tree.proofs.Changes.{made_tree, made_list, not_full, make_number, make_contexts, length-contexts_in, parent_is_placed}
 use Rattle.cancel_tree.proofs.tree.Tree.make.Goals as goal
 use Rattle.cancel_tree.proofs.tree.Tree.make.Goals.{in-Some, in-None, Joined-parent, Else-len-ge-MOST_CONTEXTS}
@@ -30,10 +32,15 @@ invariant_of-self c =
     let grown : vec_capacity c.self.inside.places ≤ vec_capacity c.push.new.self = c.push.ensures.capacity in
     let room : 4096 ≤ vec_capacity c.self.inside.places = c.self.invariant.1 in (
       rw c.in_default.ensures.items
-          (made_tree c.self.inside.made c.self.inside.kept c.self.inside.places.items c.self.invariant.0 c.insert_reserved-key.result c.match-parent.above c.args.protected c.insert_reserved-key.new.self
+          (made_tree c.self.inside.made c.self.inside.kept c.self.inside.places.items c.self.invariant.0 c.insert_reserved-key.result c.match-parent.above c.args.protected c.jump_of-jump.result c.insert_reserved-key.new.self
           c.insert_reserved-key.ensures.was_vacant c.insert_reserved-key.ensures.updates (parent_found (goal.at.invariant_of-self c).Joined-parent).1
           c.insert_reserved-key.ensures.len c.insert_reserved-key.ensures.capacity),
       omega arith,
+      rw c.in_default.ensures.items
+          (jumps_made c.self.inside.made c.self.inside.kept c.self.inside.places.items c.self.invariant.0 c.self.invariant.2 c.insert_reserved-key.result c.match-parent.above c.args.protected c.jump_of-jump.result c.insert_reserved-key.new.self
+          c.insert_reserved-key.ensures.was_vacant c.insert_reserved-key.ensures.updates (parent_found (goal.at.invariant_of-self c).Joined-parent).1
+          c.insert_reserved-key.ensures.len c.insert_reserved-key.ensures.capacity
+          (if_some (JumpsUnder c.self.inside.kept c.match-parent.above c.args.protected) c.jump_of-jump.result c.jump_of-jump.ensures)),
     )
 
 has_room : (c : Else-len-ge-MOST_CONTEXTS) → is_full c.args.self.now ≡ false
@@ -50,7 +57,7 @@ returns-clause-number c =
 pub returns-clause-after : goal.returns-clause-after
 returns-clause-after c =
     ap (contexts_in (c.self.inside.made + 1) c.insert_reserved-key.new.self) c.in_default.ensures.items
-    ∙ made_list c.self.inside.made c.self.inside.kept c.self.inside.places.items c.self.invariant.0 c.insert_reserved-key.result c.match-parent.above c.args.protected c.insert_reserved-key.new.self
+    ∙ made_list c.self.inside.made c.self.inside.kept c.self.inside.places.items c.self.invariant.0 c.insert_reserved-key.result c.match-parent.above c.args.protected c.jump_of-jump.result c.insert_reserved-key.new.self
     c.insert_reserved-key.ensures.was_vacant c.insert_reserved-key.ensures.updates (parent_found (goal.at.returns-clause-after c).Joined-parent).1
     ∙ ap (λ parent. contexts_in c.self.inside.made c.self.inside.kept c.self.inside.places.items ++ new_context parent c.args.protected ∷ []) (parent_found (goal.at.returns-clause-after c).Joined-parent).0
     ∙ ap (λ contexts. contexts ++ new_context c.args.parent c.args.protected ∷ []) c.self.view_is

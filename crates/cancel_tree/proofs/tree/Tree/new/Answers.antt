@@ -19,6 +19,7 @@ invariant_of-result c =
         room = big;
       },
       room,
+      rw items record { jumps = λ n place context e found jump f. cc },
     )
 
 pub returns : goal.returns
