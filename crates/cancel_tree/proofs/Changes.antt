@@ -1,5 +1,5 @@
 -- What the calls make of the tree: a context has a reason, one more is made, one ends. Each keeps the invariant, and changes the list as the definition does.
-use Rattle.std.proofs.Common.{◌≡◌, ℕ, zero, suc, ◌+◌, ◌-◌, ◌<◌, ◌≤◌, ◌≢◌, ◌⊎◌, inl, inr, Bool, true, false, not, ◌==◌, List, [], ◌∷◌, ◌++◌, length, slice_set, get_or, Option, Some, None, arith, rules, refl, ap, ap₂, ◌∙◌, sym, subst, true≢false, length-append, add-one, cond}
+use Rattle.std.proofs.Common.{◌≡◌, ℕ, zero, suc, ◌+◌, ◌<◌, ◌≤◌, ◌≢◌, inl, inr, Bool, true, false, not, List, [], ◌∷◌, ◌++◌, length, slice_set, get_or, Option, Some, None, arith, refl, ap, ap₂, ◌∙◌, sym, subst, true≢false, length-append, add-one, cond}
 use Rattle.std.specs.Prelude.{is_some, is_none, slice_get, count_by, nat_le, ◌&&◌}
 use Rattle.std.proofs.lemmas.Grind.{common_steps}
 use Rattle.std.proofs.lemmas.List.Sums.{sum_by-cons}

@@ -1,21 +1,20 @@
 -- The contexts as the definitions keep them, and as they are where ended ones are forgotten, call by call.
 -- A live context stands the same in both, and so does its parent, which is live; so each walk up from a live one is the same.
-use Rattle.std.proofs.Common.{◌≡◌, ℕ, zero, suc, ◌+◌, ◌<◌, ◌≤◌, ◌≢◌, ◌⊎◌, inl, inr, Bool, true, false, not, ◌==◌, ◌||◌, nat_lt, List, [], ◌∷◌, ◌++◌, length, map, filter, cond, slice_set, Option, Some, None, arith, refl, ap, ap₂, ◌∙◌, sym, subst, true≢false, length-append}
+use Rattle.std.proofs.Common.{◌≡◌, ℕ, zero, suc, ◌+◌, ◌<◌, ◌≤◌, ◌≢◌, inl, inr, Bool, true, false, not, ◌==◌, ◌||◌, nat_lt, List, [], ◌∷◌, ◌++◌, length, map, filter, cond, slice_set, Option, Some, None, arith, refl, ap, ap₂, ◌∙◌, sym, subst, true≢false, length-append}
 use Rattle.std.specs.Prelude.{is_none, nat_le, ◌&&◌}
 use Rattle.std.specs.List.{list_any}
 use Rattle.std.proofs.lemmas.Bool.Decides.{eqb_tells}
 use Rattle.std.proofs.lemmas.Option.{none-some}
 use Rattle.std.proofs.lemmas.List.Sums.{sum_by-cons}
 use Rattle.eio_value.specs.declared.plain.Plain.{Plain}
-use Rattle.row_model.specs.Contexts.{Context, Waiting, never_made, context_at, is_live, live_count, is_full, new_context, make, above, way_within, way_up, off, first_reason, goes_up_to, takes_effect, cancel, end, reached}
-use Rattle.row_model.specs.ContextCalls.{Contexts, no_contexts, ContextCall, Root, Sub, Protect, Cancel, Wait, Unwait, End, called, after, members, put_in, taken_out}
+use Rattle.row_model.specs.Contexts.{Context, Waiting, never_made, context_at, is_live, live_count, is_full, new_context, make, above, way_within, off, first_reason, goes_up_to, takes_effect, cancel, reached}
+use Rattle.row_model.specs.ContextCalls.{Contexts, no_contexts, ContextCall, Root, Sub, Protect, Cancel, Wait, Unwait, End, called, after, put_in, taken_out}
 use Rattle.model_laws.proofs.Places.{others_unchanged, changed_itself, older_unchanged, made_last, past_all, left_by_change}
-use Rattle.cancel_tree.specs.Ended.{left_by_end}
 use Rattle.cancel_tree.specs.Endings.{HasNoLiveChild}
 use Rattle.cancel_tree.specs.Waits.{waits_in}
-use Rattle.cancel_tree.specs.Forgetting.{left, left_after, MayEnd, MayCall, MayCallAll, AnswersAlike, ForgetsNothingLive}
+use Rattle.cancel_tree.specs.Forgetting.{left, left_after, MayCall, MayCallAll, AnswersAlike, ForgetsNothingLive}
 use Rattle.cancel_tree.proofs.Changes.{cancel_none, cancel_some, make_full, make_contexts}
-use Rattle.cancel_tree.proofs.Finding.{tells_other, tells_same}
+use Rattle.cancel_tree.proofs.Finding.{tells_same}
 use Rattle.cancel_tree.proofs.Listing.{compared}
 
 -- each waiting fiber's context is live
@@ -178,13 +177,15 @@ module _ (s t : List Context) (alike : Alike s t) (x : Context) (parent : (p : �
   more_stand c lives = elim (compared c (length s)) [
     | inl below ↦
         let same : context_at (s ++ x ∷ []) c ≡ context_at s c = older_unchanged s c x below in
-        let lived : is_live s c ≡ true = sym (ap (λ (context : Context). not context.ended) same) ∙ lives in
-        (older_unchanged t c x (subst (λ n. c < n) (sym same_length) below) ∙ alike.stand c lived ∙ sym same,
-         λ p e. live_stays s x p (alike.parents c p lived (sym (ap (λ (context : Context). context.parent) same) ∙ e)))
+        let lived : is_live s c ≡ true = sym (ap (λ (context : Context). not context.ended) same) ∙ lives in (
+          older_unchanged t c x (subst (λ n. c < n) (sym same_length) below) ∙ alike.stand c lived ∙ sym same,
+          λ p e. live_stays s x p (alike.parents c p lived (sym (ap (λ (context : Context). context.parent) same) ∙ e)),
+        )
     | inr rest ↦ elim rest [
-      | inl at ↦
-          (made_last t c x (at ∙ sym same_length) ∙ sym (made_last s c x at),
-           λ p e. live_stays s x p (parent p (sym (ap (λ (context : Context). context.parent) (made_last s c x at)) ∙ e)))
+      | inl at ↦ (
+        made_last t c x (at ∙ sym same_length) ∙ sym (made_last s c x at),
+        λ p e. live_stays s x p (parent p (sym (ap (λ (context : Context). context.parent) (made_last s c x at)) ∙ e)),
+      )
       | inr past ↦
           let beyond : length (s ++ x ∷ []) ≤ c = omega (arith, length-append s (x ∷ [])) in
           absurd (true≢false (sym lives ∙ ap (λ (context : Context). not context.ended) (past_all (s ++ x ∷ []) c beyond)))
@@ -300,9 +301,9 @@ module _ (s t : List Context) (alike : Alike s t) (c : ℕ) (childless : HasNoLi
     ends = set_ends s t alike c ended never_made refl;
     stand = λ q lived. others_stand s t alike c ended never_made refl q (apart_of q lived) (lived_before q lived);
     parents = λ q p lived e.
-      let parent : (context_at s q).parent ≡ Some p = sym (ap (λ (context : Context). context.parent) (others_unchanged s c q ended (apart_of q lived))) ∙ e in
-      let lives : is_live s p ≡ true = alike.parents q p (lived_before q lived) parent in
-      others_live s t alike c ended never_made refl p (λ same. childless q (lived_before q lived) (parent ∙ ap Some same)) ∙ lives;
+        let parent : (context_at s q).parent ≡ Some p = sym (ap (λ (context : Context). context.parent) (others_unchanged s c q ended (apart_of q lived))) ∙ e in
+        let lives : is_live s p ≡ true = alike.parents q p (lived_before q lived) parent in
+        others_live s t alike c ended never_made refl p (λ same. childless q (lived_before q lived) (parent ∙ ap Some same)) ∙ lives;
   }
 
   left_waiting : (ws : List Waiting) → waits_in c ws ≡ false → WaitLive s ws → WaitLive (slice_set s c ended) ws

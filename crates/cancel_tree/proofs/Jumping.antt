@@ -1,6 +1,6 @@
 -- Jumps stay jumps, whatever changes: the way up from a context that is left is unchanged.
-use Rattle.std.proofs.Common.{◌≡◌, ℕ, zero, suc, ◌+◌, ◌<◌, ◌≤◌, ◌≢◌, ◌⊎◌, inl, inr, Bool, true, false, ◌==◌, ◌||◌, List, [], ◌∷◌, ◌++◌, length, slice_set, Option, Some, None, arith, refl, ap, ◌∙◌, sym, subst, true≢false}
-use Rattle.std.specs.Prelude.{is_some, slice_get, IfSome}
+use Rattle.std.proofs.Common.{◌≡◌, ℕ, zero, suc, ◌+◌, ◌<◌, ◌≢◌, inl, inr, Bool, true, false, ◌==◌, ◌||◌, List, [], ◌∷◌, ◌++◌, Option, Some, None, arith, refl, ap, ◌∙◌, sym, subst, true≢false}
+use Rattle.std.specs.Prelude.{slice_get, IfSome}
 use Rattle.std.specs.List.{list_any}
 use Rattle.std.specs.Option.{option_map}
 use Rattle.std.proofs.lemmas.Bool.Decides.{eqb_tells}
@@ -15,12 +15,12 @@ use Rattle.cancel_tree.specs.declared.kept.Jump.{Jump}
 use Rattle.cancel_tree.specs.declared.kept.Kept.{Kept}
 use Rattle.cancel_tree.specs.declared.kept.Place.{Place}
 use Rattle.cancel_tree.specs.Endings.{HasNoLiveChild}
-use Rattle.cancel_tree.specs.Jumps.{TwoJumps, JumpsFrom, JumpsUnder, JumpsTo, HasJumps}
+use Rattle.cancel_tree.specs.Jumps.{JumpsFrom, JumpsUnder, JumpsTo, HasJumps}
 use Rattle.cancel_tree.specs.Kept.{context_of, contexts_in, Stands, IsTree}
 use Rattle.cancel_tree.specs.Places.{place_at}
-use Rattle.cancel_tree.proofs.Changes.{same_there, others_there, with_reason, keys_differ, changed_list, changed_tree, made_list, made_tree, more, new_place, key_is_new, new_there, ended_list, fewer, others_placed, parent_left, gone_there, length-contexts_in}
-use Rattle.cancel_tree.proofs.Finding.{place_at-number, below_found, tells_other, same_number, place_at-append_other}
-use Rattle.cancel_tree.proofs.Trees.{stands_there, parents_older, kept_placed, at_own, goes_up_to_itself}
+use Rattle.cancel_tree.proofs.Changes.{same_there, others_there, with_reason, keys_differ, changed_list, made_list, made_tree, key_is_new, new_there, ended_list, fewer, others_placed, parent_left, gone_there, length-contexts_in}
+use Rattle.cancel_tree.proofs.Finding.{below_found, tells_other, same_number, place_at-append_other}
+use Rattle.cancel_tree.proofs.Trees.{stands_there, parents_older, goes_up_to_itself}
 
 -- what is said of a value that there may be
 pub if_some : {X : Type 0} (P : X → Type 0) (found : Option X) → IfSome found P → (x : X) → found ≡ Some x → P x
@@ -53,9 +53,11 @@ module _ (before after : List Context) (Good : ℕ → Type 0) (same : (x : ℕ)
       onward : (from : Option ℕ) → above before x ≡ from → list_any (λ y. y == q) (elim from [ None ↦ [] | Some p ↦ way_within n before p ]) ≡ true → ((p : ℕ) → above before x ≡ Some p → list_any (λ y. y == q) (way_within n before p) ≡ true → Good q) → Good q
       onward None f e later = absurd (true≢false (sym e))
       onward (Some p) f e later = later p f e
+
       either : (a b : Bool) → a ≡ false → (a || b) ≡ true → b ≡ true
       either true b f e = absurd (true≢false f)
       either false b f e = e
+
       by : (test : Bool) → (x == q) ≡ test → ((p : ℕ) → above before x ≡ Some p → list_any (λ y. y == q) (way_within n before p) ≡ true → Good q) → Good q
       by true t later = subst Good (same_number x q t) good
       by false t later = onward (above before x) refl (either (x == q) _ t e) later
@@ -78,20 +80,22 @@ module _ (made : ℕ) (kept : Slab Kept) (places : List Place) (tree : IsTree ma
         let stood : context_at (contexts_in made kept places) c ≡ context_of (Some context) = stands_there made kept places tree c place context at found in
         ap (λ contexts. above contexts x) (changed_list made kept places tree c place context changed kept' at found number parent itself others)
         ∙ same_above (contexts_in made kept places) c x (context_of (Some changed))
-          (ap (option_map (λ (place : Place). place.number)) parent ∙ sym (ap (λ (context : Context). context.parent) stood))
-          (protected ∙ sym (ap (λ (context : Context). context.protected) stood))
+        (ap (option_map (λ (place : Place). place.number)) parent ∙ sym (ap (λ (context : Context). context.parent) stood))
+        (protected ∙ sym (ap (λ (context : Context). context.protected) stood))
 
     pub jumps_changed : HasJumps made kept' places
-    jumps_changed = record { jumps = λ x other left there kept_there to e.
-      jumps_on (contexts_in made kept places) (contexts_in made kept' places) (λ _. Unit {0}) (λ x _. above_changed x) (λ x p _ _. tt) places places x to.place tt tt refl
-      (elim (eqb_tells x c) [
-        | inl same ↦
-            let one : place ≡ other = (let h : place_at places x ≡ place_at places c = ap (place_at places) same.1 in cc) in
-            let now : changed ≡ left = (let h : get kept' other.key ≡ get kept' place.key = ap (λ (place : Place). get kept' place.key) (sym one) in cc) in
-            let was : get kept other.key ≡ Some context = ap (λ (place : Place). get kept place.key) (sym one) ∙ found in
-            has.jumps x other context there was to (sym jump ∙ ap (λ (context : Kept). context.jump) now ∙ e)
-        | inr apart ↦ has.jumps x other left there (sym (others other.key (keys_differ made kept places tree c x place other at there apart.1)) ∙ kept_there) to e
-      ]) }
+    jumps_changed = record {
+      jumps = λ x other left there kept_there to e.
+          jumps_on (contexts_in made kept places) (contexts_in made kept' places) (λ _. Unit {0}) (λ x _. above_changed x) (λ x p _ _. tt) places places x to.place tt tt refl
+          (elim (eqb_tells x c) [
+            | inl same ↦
+                let one : place ≡ other = (let h : place_at places x ≡ place_at places c = ap (place_at places) same.1 in cc) in
+                let now : changed ≡ left = (let h : get kept' other.key ≡ get kept' place.key = ap (λ (place : Place). get kept' place.key) (sym one) in cc) in
+                let was : get kept other.key ≡ Some context = ap (λ (place : Place). get kept place.key) (sym one) ∙ found in
+                has.jumps x other context there was to (sym jump ∙ ap (λ (context : Kept). context.jump) now ∙ e)
+            | inr apart ↦ has.jumps x other left there (sym (others other.key (keys_differ made kept places tree c x place other at there apart.1)) ∙ kept_there) to e
+          ]);
+    }
 
   pub jumps_cancelled : (c : ℕ) (place : Place) (context : Kept) (why : Plain) → place_at places c ≡ Some place → get kept place.key ≡ Some context → HasJumps made (with_value kept place.key (with_reason made kept places tree context why)) places
   jumps_cancelled c place context why at found =
@@ -174,25 +178,27 @@ module _ (made : ℕ) (kept : Slab Kept) (places : List Place) (tree : IsTree ma
               placed = still_placed two.second.place next.placed;
               further = omega arith;
               alike = λ x le.
-                from_new p (under to e).open_above (under to e).under x (omega arith)
-                ∙ one.alike x (omega arith)
-                ∙ next.alike x le
-                ∙ sym (older_alike two.second.place.number x (omega arith));
+                  from_new p (under to e).open_above (under to e).under x (omega arith)
+                  ∙ one.alike x (omega arith)
+                  ∙ next.alike x le
+                  ∙ sym (older_alike two.second.place.number x (omega arith));
             }
 
     pub jumps_made : HasJumps (made + 1) kept' wider
-    jumps_made = record { jumps = λ x place context there kept_there to e. elim (eqb_tells x made) [
-      | inl same ↦
-          let one : record { number = made; key = key } ≡ place = (let h : place_at wider x ≡ place_at wider made = ap (place_at wider) same.1 in let g : place_at wider made ≡ Some (record { number = made; key = key }) = new_there made kept places tree key parent protected jump kept' vacant updates placed in cc) in
-          let now : record { number = made; parent = parent; protected = protected; reason = None; jump = jump } ≡ context = (let h : get kept' place.key ≡ get kept' key = ap (λ (place : Place). get kept' place.key) (sym one) in let g = updates.changed in cc) in
-          subst (λ x. JumpsTo (contexts_in (made + 1) kept' wider) wider x to.place) (sym same.1) (jumps_new to (ap (λ (context : Kept). context.jump) now ∙ e))
-      | inr apart ↦
-          let before : place_at places x ≡ Some place = sym (place_at-append_other places (record { number = made; key = key }) x (λ same. apart.1 (sym same))) ∙ there in
-          let old : JumpsTo (contexts_in made kept places) places x to.place = has.jumps x place context before (sym (updates.others place.key (key_is_new made kept places tree key parent protected jump kept' vacant updates placed x place before)) ∙ kept_there) to e in
-          let below : x < made = below_found made places x place tree.below before in
-          let lower : to.place.number < x = old.further in
-          jumps_on (contexts_in made kept places) (contexts_in (made + 1) kept' wider) (λ x. x < made) above_older older_closed places wider x to.place below (omega arith) (still_placed to.place old.placed ∙ sym old.placed) old
-    ] }
+    jumps_made = record {
+      jumps = λ x place context there kept_there to e. elim (eqb_tells x made) [
+        | inl same ↦
+            let one : record { number = made; key = key } ≡ place = (let h : place_at wider x ≡ place_at wider made = ap (place_at wider) same.1 in let g : place_at wider made ≡ Some (record { number = made; key = key }) = new_there made kept places tree key parent protected jump kept' vacant updates placed in cc) in
+            let now : record { number = made; parent = parent; protected = protected; reason = None; jump = jump } ≡ context = (let h : get kept' place.key ≡ get kept' key = ap (λ (place : Place). get kept' place.key) (sym one) in let g = updates.changed in cc) in
+            subst (λ x. JumpsTo (contexts_in (made + 1) kept' wider) wider x to.place) (sym same.1) (jumps_new to (ap (λ (context : Kept). context.jump) now ∙ e))
+        | inr apart ↦
+            let before : place_at places x ≡ Some place = sym (place_at-append_other places (record { number = made; key = key }) x (λ same. apart.1 (sym same))) ∙ there in
+            let old : JumpsTo (contexts_in made kept places) places x to.place = has.jumps x place context before (sym (updates.others place.key (key_is_new made kept places tree key parent protected jump kept' vacant updates placed x place before)) ∙ kept_there) to e in
+            let below : x < made = below_found made places x place tree.below before in
+            let lower : to.place.number < x = old.further in
+            jumps_on (contexts_in made kept places) (contexts_in (made + 1) kept' wider) (λ x. x < made) above_older older_closed places wider x to.place below (omega arith) (still_placed to.place old.placed ∙ sym old.placed) old
+      ];
+    }
 
   -- One ends
 
@@ -218,6 +224,7 @@ module _ (made : ℕ) (kept : Slab Kept) (places : List Place) (tree : IsTree ma
       where
         stood : context_at (contexts_in made kept places) x ≡ context_of (Some (tree.stands x stays.place stays.found).context)
         stood = let there : Stands made kept places stays.place = tree.stands x stays.place stays.found in stands_there made kept places tree x stays.place there.context stays.found there.found
+
         by : (parent : Option Place) → (tree.stands x stays.place stays.found).context.parent ≡ parent → option_map (λ (place : Place). place.number) parent ≡ Some p → Stays p
         by None k f = absurd (none-some p f)
         by (Some parent) k f =
@@ -229,17 +236,19 @@ module _ (made : ℕ) (kept : Slab Kept) (places : List Place) (tree : IsTree ma
             }
 
     pub jumps_left : HasJumps made kept' left
-    jumps_left = record { jumps = λ x place context found kept_there to e. elim (eqb_tells x c) [
-      | inl same ↦ absurd (gone_is_none x place same.1 found)
-      | inr apart ↦
-          let before : place_at places x ≡ Some place = sym (others_placed made kept places tree c i gone kept' at there updates childless x apart.1) ∙ found in
-          let old : JumpsTo (contexts_in made kept places) places x to.place = has.jumps x place context before (sym (updates.others place.key (keys_differ made kept places tree c x gone place at before apart.1)) ∙ kept_there) to e in
-          let stays : Stays x = record { place = place; found = before; apart = apart.1 } in
-          let reaches : goes_up_to (contexts_in made kept places) x to.place.number ≡ true = old.alike to.place.number (omega arith) ∙ goes_up_to_itself (contexts_in made kept places) to.place.number to.place.number refl in
-          let end_stays : Stays to.place.number = way_good (contexts_in made kept places) (contexts_in made kept' left) Stays above_left left_closed (x + 1) x to.place.number stays reaches in
-          jumps_on (contexts_in made kept places) (contexts_in made kept' left) Stays above_left left_closed places left x to.place stays end_stays
-          (others_placed made kept places tree c i gone kept' at there updates childless to.place.number end_stays.apart) old
-    ] }
+    jumps_left = record {
+      jumps = λ x place context found kept_there to e. elim (eqb_tells x c) [
+        | inl same ↦ absurd (gone_is_none x place same.1 found)
+        | inr apart ↦
+            let before : place_at places x ≡ Some place = sym (others_placed made kept places tree c i gone kept' at there updates childless x apart.1) ∙ found in
+            let old : JumpsTo (contexts_in made kept places) places x to.place = has.jumps x place context before (sym (updates.others place.key (keys_differ made kept places tree c x gone place at before apart.1)) ∙ kept_there) to e in
+            let stays : Stays x = record { place = place; found = before; apart = apart.1 } in
+            let reaches : goes_up_to (contexts_in made kept places) x to.place.number ≡ true = old.alike to.place.number (omega arith) ∙ goes_up_to_itself (contexts_in made kept places) to.place.number to.place.number refl in
+            let end_stays : Stays to.place.number = way_good (contexts_in made kept places) (contexts_in made kept' left) Stays above_left left_closed (x + 1) x to.place.number stays reaches in
+            jumps_on (contexts_in made kept places) (contexts_in made kept' left) Stays above_left left_closed places left x to.place stays end_stays
+            (others_placed made kept places tree c i gone kept' at there updates childless to.place.number end_stays.apart) old
+      ];
+    }
       where
         gone_is_none : (x : ℕ) (place : Place) → x ≡ c → place_at left x ≡ Some place → ⊥
         gone_is_none x place same found =

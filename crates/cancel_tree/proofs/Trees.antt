@@ -1,5 +1,5 @@
 -- The tree as it is kept: what it says of each number, and the walks upwards.
-use Rattle.std.proofs.Common.{◌≡◌, ℕ, zero, suc, ◌+◌, ◌<◌, ◌≤◌, ◌≢◌, ◌⊎◌, inl, inr, Bool, true, false, not, ◌==◌, ◌||◌, List, [], ◌∷◌, length, Option, Some, None, arith, rules, refl, ap, ap₂, ◌∙◌, sym, true≢false}
+use Rattle.std.proofs.Common.{◌≡◌, ℕ, zero, suc, ◌+◌, ◌<◌, ◌≤◌, ◌≢◌, inl, inr, Bool, true, false, not, ◌==◌, ◌||◌, List, ◌∷◌, Option, Some, None, arith, rules, refl, ap, ap₂, ◌∙◌, sym, true≢false}
 use Rattle.std.specs.Prelude.{is_some, IsSome, nat_le}
 use Rattle.std.proofs.lemmas.Grind.{common_steps}
 use Rattle.std.specs.List.{list_any}
@@ -16,7 +16,7 @@ use Rattle.cancel_tree.specs.declared.kept.Kept.{Kept}
 use Rattle.cancel_tree.specs.declared.kept.Place.{Place}
 use Rattle.cancel_tree.specs.Jumps.{kept_above, kept_towards, JumpsTo, HasJumps}
 use Rattle.cancel_tree.specs.Places.{place_at}
-use Rattle.cancel_tree.specs.Kept.{kept_at, context_of, listed, contexts_in, Stands, IsTree}
+use Rattle.cancel_tree.specs.Kept.{kept_at, context_of, contexts_in, Stands, IsTree}
 use Rattle.cancel_tree.proofs.Finding.{place_at-number, absent_past, tells_other, tells_same}
 use Rattle.cancel_tree.proofs.Listing.{compared, listed_below, listed_past}
 
@@ -268,11 +268,13 @@ module _ (made : ℕ) (kept : Slab Kept) (places : List Place) (tree : IsTree ma
     where
       step : UpGoesOn (contexts_in made kept places) places x c (kept_above context)
       step = up_goes_on x c place context goes found younger
+
       by_test : (jump : Jump) (test : Bool) → context.jump ≡ Some jump → nat_le c jump.place.number ≡ test → UpGoesOn (contexts_in made kept places) places x c (elim test [ true ↦ Some jump.place | false ↦ kept_above context ])
       by_test jump true e t =
           let jumps : JumpsTo (contexts_in made kept places) places place.number jump.place = has.jumps place.number place context goes.0 found jump e in
           (jumps.placed, goes.1 ∙ jumps.alike c (at_most c jump.place.number t))
       by_test jump false e t = step
+
       by : (jump : Option Jump) → context.jump ≡ jump → UpGoesOn (contexts_in made kept places) places x c (elim jump [ None ↦ kept_above context | Some jump ↦ elim (nat_le c jump.place.number) [ true ↦ Some jump.place | false ↦ kept_above context ] ])
       by None e = step
       by (Some jump) e = by_test jump (nat_le c jump.place.number) e refl
@@ -282,9 +284,11 @@ module _ (made : ℕ) (kept : Slab Kept) (places : List Place) (tree : IsTree ma
     where
       step : height (kept_above context) < height (Some place)
       step = lower_next place context at found
+
       by_test : (jump : Jump) (test : Bool) → context.jump ≡ Some jump → height (elim test [ true ↦ Some jump.place | false ↦ kept_above context ]) < height (Some place)
       by_test jump true e = let lower : jump.place.number < place.number = (has.jumps place.number place context at found jump e).further in omega arith
       by_test jump false e = step
+
       by : (jump : Option Jump) → context.jump ≡ jump → height (elim jump [ None ↦ kept_above context | Some jump ↦ elim (nat_le c jump.place.number) [ true ↦ Some jump.place | false ↦ kept_above context ] ]) < height (Some place)
       by None e = step
       by (Some jump) e = by_test jump (nat_le c jump.place.number) e

@@ -1,6 +1,6 @@
 -- Waiting fibers in order of their numbers: where one goes in, and what is left when it goes.
-use Rattle.std.proofs.Common.{◌≡◌, ℕ, zero, suc, ◌+◌, ◌<◌, ◌≤◌, ◌≢◌, ◌⊎◌, inl, inr, Bool, true, false, not, ◌==◌, ◌||◌, nat_lt, List, [], ◌∷◌, ◌++◌, length, map, filter, get_or, take, drop, cond, arith, refl, ap, ◌∙◌, sym, subst, true≢false}
-use Rattle.std.specs.List.{AllWithin, list_any}
+use Rattle.std.proofs.Common.{◌≡◌, ℕ, zero, suc, ◌<◌, ◌≤◌, ◌≢◌, inl, inr, true, false, not, ◌||◌, nat_lt, List, [], ◌∷◌, ◌++◌, length, map, get_or, take, drop, cond, arith, refl, ap, ◌∙◌, sym, subst, true≢false}
+use Rattle.std.specs.List.{AllWithin}
 use Rattle.std.specs.List.Sorted.{IsPartitionedBy}
 use Rattle.std.proofs.lemmas.Bool.Decides.{eqb_tells}
 use Rattle.row_model.specs.Contexts.{Waiting}

@@ -1,6 +1,5 @@
 -- The waiting fibers as the code keeps them, in order of their numbers.
-use Rattle.std.specs.Prelude.{ℕ, ◌<◌, Bool, ◌==◌, List, [], ◌∷◌}
-use Rattle.std.specs.List.{list_any}
+use Rattle.std.specs.Prelude.{ℕ, ◌<◌, List, [], ◌∷◌}
 use Rattle.row_model.specs.Contexts.{Waiting}
 use Rattle.cancel_tree.specs.declared.waiters.Entered.{Entered}
 

@@ -80,11 +80,7 @@ fn jump_from(kept: &Slab<Kept>, parent: Place) -> Jump
 }
 
 /// The jump of a new context.
-pub(crate) fn jump_of(
-    kept: &Slab<Kept>,
-    parent: Option<Place>,
-    protected: bool,
-) -> Option<Jump>
+pub(crate) fn jump_of(kept: &Slab<Kept>, parent: Option<Place>, protected: bool) -> Option<Jump>
     ensures { IfSome result (JumpsUnder kept.now parent protected) }
 {
     match parent {

@@ -3,9 +3,13 @@
 use super::{Ready, Timers};
 use std::test::Fail;
 
+/// Only of a type that may move to another thread.
+fn may_move<T: Send>(_value: &T) {}
+
 #[test]
 fn fibers_move_in_order(rt: HostRuntime) -> Result<(), Fail> {
     let mut ready = Ready::new(rt.alloc(), 2)?;
+    may_move(&ready);
     ready.push_back(7)?;
     ready.push_head(4)?;
     assert!(rt; ready.push_back(9).is_err());
@@ -18,6 +22,7 @@ fn fibers_move_in_order(rt: HostRuntime) -> Result<(), Fail> {
 #[test]
 fn timers_go_off_in_order(rt: HostRuntime) -> Result<(), Fail> {
     let mut timers = Timers::new(rt.alloc(), 3)?;
+    may_move(&timers);
     timers.add(30, 1)?;
     timers.add(10, 2)?;
     timers.add(10, 3)?;

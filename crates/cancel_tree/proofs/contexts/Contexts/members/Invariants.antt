@@ -1,4 +1,4 @@
-use Rattle.std.proofs.Common.{◌≡◌, ◌≤◌, ◌+◌, ◌++◌, map, take, vec_len, vec_capacity, length}
+use Rattle.std.proofs.Common.{◌≡◌, ◌≤◌, ◌+◌, ◌++◌, map, take, vec_len, vec_capacity}
 use Rattle.row_model.specs.Contexts.{reached}
 use Rattle.cancel_tree.specs.Entered.{waiting_of}
 use Rattle.cancel_tree.proofs.contexts.Contexts.members.Given as goal

@@ -1,8 +1,8 @@
-use Rattle.std.proofs.Common.{rules, ◌≡◌, ◌<◌, ◌≤◌, ◌+◌, vec_capacity, Some, None, true, ◌∙◌, sym, ap, subst, List, length, arith, nat_lt}
-use Rattle.std.specs.Prelude.{is_some, slice_get}
+use Rattle.std.proofs.Common.{rules, ◌≡◌, ◌<◌, ◌≤◌, ◌+◌, vec_capacity, Some, true, ◌∙◌, sym, ap, subst, length, arith, nat_lt}
+use Rattle.std.specs.Prelude.{slice_get}
 use Rattle.std.proofs.lemmas.List.Sorted.{IsPartitionPoint-from_clause}
 use Rattle.slab.specs.Slab.{get}
-use Rattle.row_model.specs.Contexts.{Context, is_live}
+use Rattle.row_model.specs.Contexts.{is_live}
 use Rattle.cancel_tree.specs.declared.kept.Place.{Place}
 use Rattle.cancel_tree.specs.Kept.{contexts_in}
 use Rattle.cancel_tree.specs.Places.{place_at}

@@ -1,4 +1,3 @@
-use Rattle.std.proofs.Common.{◌≢◌}
 use Rattle.cancel_tree.specs.Kept.{contexts_in}
 use Rattle.cancel_tree.proofs.Trees.{UpGoesOn, height}
 use Rattle.cancel_tree.proofs.tree.Tree.goes_up_to.Given as goal

@@ -1,7 +1,4 @@
-use Rattle.std.proofs.Common.{rules, ◌≡◌, ◌∙◌, sym, ap}
-use Rattle.std.specs.Prelude.{is_some}
-use Rattle.row_model.specs.Contexts as contexts
-use Rattle.cancel_tree.specs.Places.{place_at}
+use Rattle.std.proofs.Common.{sym}
 use Rattle.cancel_tree.proofs.Trees.{live_is_placed}
 use Rattle.cancel_tree.proofs.tree.Tree.is_live.Goals as goal
 

@@ -1,6 +1,5 @@
-use Rattle.std.proofs.Common.{rules, ◌≡◌, ◌∙◌, sym, ap, arith, refl, length}
-use Rattle.slab.specs.Slab.{slab_len}
-use Rattle.cancel_tree.specs.Kept.{IsTree, contexts_in, listed}
+use Rattle.std.proofs.Common.{refl}
+use Rattle.cancel_tree.specs.Kept.{contexts_in, listed}
 use Rattle.cancel_tree.proofs.tree.Tree.new.Goals as goal
 
 pub invariant_of-result : goal.invariant_of-result

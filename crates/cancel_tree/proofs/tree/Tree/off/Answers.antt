@@ -1,9 +1,8 @@
-use Rattle.std.proofs.Common.{rules, ◌≡◌, Some, None, ◌∙◌, sym, ap, subst, List}
-use Rattle.std.specs.Prelude.{IsSome}
+use Rattle.std.proofs.Common.{◌≡◌, Some, None, ◌∙◌, sym, ap, subst, List}
 use Rattle.row_model.specs.Contexts.{Context, off}
 use Rattle.cancel_tree.specs.Kept.{contexts_in}
 use Rattle.cancel_tree.specs.Places.{place_at}
-use Rattle.cancel_tree.proofs.Trees.{OffGoesOn, height, off_begins, off_ends, off_goes_on, lower_next, is_there, has_value}
+use Rattle.cancel_tree.proofs.Trees.{OffGoesOn, off_begins, off_ends, off_goes_on, lower_next, is_there, has_value}
 use Rattle.cancel_tree.proofs.tree.Tree.off.Goals as goal
 use Rattle.cancel_tree.proofs.tree.Tree.off.Goals.{After-place_of-next, In-Some}
 

@@ -1,11 +1,11 @@
-use Rattle.std.proofs.Common.{rules, ◌≡◌, ◌≤◌, ◌<◌, ◌+◌, ◌++◌, ◌∷◌, sym, ap, subst, ◌∙◌, length, take, drop, map, nat_lt, true, false, arith, vec_capacity}
+use Rattle.std.proofs.Common.{rules, ◌≡◌, ◌≤◌, ◌<◌, ◌+◌, sym, ap, subst, ◌∙◌, length, map, nat_lt, false, arith, vec_capacity}
 use Rattle.std.proofs.lemmas.List.{length-map}
 use Rattle.std.proofs.lemmas.List.Sorted.{IsPartitionPoint-from_clause}
-use Rattle.row_model.specs.ContextCalls.{put_in, taken_out}
+use Rattle.row_model.specs.ContextCalls.{put_in}
 use Rattle.cancel_tree.specs.declared.waiters.Entered.{Entered}
 use Rattle.cancel_tree.specs.Entered.{waiting_of}
 use Rattle.cancel_tree.specs.Waits.{waits}
-use Rattle.cancel_tree.proofs.Waiting.{Parts, first_are_lower, put_in-map, Rise-put, within_waits, taken_out-map, Rise-rest}
+use Rattle.cancel_tree.proofs.Waiting.{Parts, first_are_lower, put_in-map, Rise-put}
 use Rattle.cancel_tree.proofs.waiters.Waiters.enter.Goals as goal
 use Rattle.cancel_tree.proofs.waiters.Waiters.enter.Goals.{After-partition_point-index}
 

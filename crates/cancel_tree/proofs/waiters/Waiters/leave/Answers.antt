@@ -1,10 +1,10 @@
-use Rattle.std.proofs.Common.{rules, ◌≡◌, ◌≤◌, ◌<◌, ◌+◌, ◌++◌, ◌∷◌, sym, ap, subst, ◌∙◌, length, take, drop, map, nat_lt, true, false, arith, vec_capacity}
+use Rattle.std.proofs.Common.{rules, ◌≡◌, ◌≤◌, ◌<◌, ◌+◌, sym, ap, subst, ◌∙◌, length, map, nat_lt, true, arith, vec_capacity}
 use Rattle.std.proofs.lemmas.List.Sorted.{IsPartitionPoint-from_clause}
-use Rattle.row_model.specs.ContextCalls.{put_in, taken_out}
+use Rattle.row_model.specs.ContextCalls.{taken_out}
 use Rattle.cancel_tree.specs.declared.waiters.Entered.{Entered}
 use Rattle.cancel_tree.specs.Entered.{waiting_of}
 use Rattle.cancel_tree.specs.Waits.{waits}
-use Rattle.cancel_tree.proofs.Waiting.{Parts, first_are_lower, put_in-map, Rise-put, within_waits, taken_out-map, Rise-rest}
+use Rattle.cancel_tree.proofs.Waiting.{Parts, first_are_lower, within_waits, taken_out-map, Rise-rest}
 use Rattle.cancel_tree.proofs.waiters.Waiters.leave.Goals as goal
 use Rattle.cancel_tree.proofs.waiters.Waiters.leave.Goals.{After-partition_point-index}
 
