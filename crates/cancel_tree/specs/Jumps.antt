@@ -5,7 +5,7 @@ use Rattle.row_model.specs.Contexts.{Context, goes_up_to}
 use Rattle.cancel_tree.specs.declared.kept.Jump.{Jump}
 use Rattle.cancel_tree.specs.declared.kept.Kept.{Kept}
 use Rattle.cancel_tree.specs.declared.kept.Place.{Place}
-use Rattle.cancel_tree.specs.Kept.{contexts_in}
+use Rattle.cancel_tree.specs.Kept.{contexts_in, IsTree}
 use Rattle.cancel_tree.specs.Places.{place_at}
 
 -- one step up from what is kept
@@ -49,3 +49,9 @@ pub record JumpsTo (contexts : List Context) (places : List Place) (c : ℕ) (to
 pub record HasJumps (made : ℕ) (kept : Slab Kept) (places : List Place) : Type 0 where
   pub jumps : (c : ℕ) (place : Place) (context : Kept) → place_at places c ≡ Some place → get kept place.key ≡ Some context → (jump : Jump) → context.jump ≡ Some jump
       → JumpsTo (contexts_in made kept places) places c jump.place
+
+-- the invariant of the tree, whose places have so much room
+pub record IsSound (made : ℕ) (kept : Slab Kept) (places : List Place) (capacity : ℕ) : Type 0 where
+  pub tree : IsTree made kept places
+  pub jumps : HasJumps made kept places
+  pub room : 4096 ≤ capacity

@@ -4,6 +4,9 @@ use super::Contexts;
 use eio_value::Plain;
 use std::test::Fail;
 
+/// Only of a type that may move to another thread.
+fn may_move<T: Send>(_value: &T) {}
+
 #[test]
 fn cancels_below_but_not_the_protected(rt: HostRuntime) -> Result<(), Fail> {
     let mut contexts = Contexts::new(rt.alloc())?;
@@ -34,6 +37,7 @@ fn cancels_below_but_not_the_protected(rt: HostRuntime) -> Result<(), Fail> {
 #[test]
 fn ended_is_not_live(rt: HostRuntime) -> Result<(), Fail> {
     let mut contexts = Contexts::new(rt.alloc())?;
+    may_move(&contexts);
     let top = contexts.root()?;
     assert!(rt; contexts.is_live(top));
     contexts.end(top);

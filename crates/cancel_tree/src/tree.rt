@@ -2,8 +2,7 @@
 //!
 //! The live ones are kept in a slab, and their numbers, in order, with the slab's keys: a number is found by halving, and
 //! each step of a walk upwards takes constant time, since a context knows where its parent is kept. The walk to a given context
-//! also takes the jumps that each context knows, which are chosen so that few lie on any way. The invariants are `IsTree` and
-//! `HasJumps`.
+//! also takes the jumps that each context knows, which are chosen so that few lie on any way. The invariant is `IsSound`.
 //! The theorems are the clauses of the methods of [`Tree`], by `row_model`'s `Contexts`.
 
 ghost use Rattle.std.specs.Prelude.{◌≡◌, ◌<◌, ◌-◌, ◌^◌, [], length, true, IfOk};
@@ -33,17 +32,17 @@ pub(crate) struct Tree {
 }
 
 impl Model for Tree {
-    ghost use Rattle.std.specs.Prelude.{List, vec_capacity, ◌≤◌};
+    ghost use Rattle.std.specs.Prelude.{List, vec_capacity};
     ghost use Rattle.row_model.specs.Contexts.{Context};
 
     ghost Value = { List Context };
 
-    ghost use Rattle.cancel_tree.specs.Kept.{contexts_in, IsTree};
-    ghost use Rattle.cancel_tree.specs.Jumps.{HasJumps};
+    ghost use Rattle.cancel_tree.specs.Kept.{contexts_in};
+    ghost use Rattle.cancel_tree.specs.Jumps.{IsSound};
 
     ghost view = { λ t. contexts_in t.made t.kept t.places.items };
 
-    ghost invariant = { λ t. IsTree t.made t.kept t.places.items × (4096 ≤ vec_capacity t.places) × HasJumps t.made t.kept t.places.items };
+    ghost invariant = { λ t. IsSound t.made t.kept t.places.items (vec_capacity t.places) };
 }
 
 impl Tree {

@@ -1,7 +1,7 @@
 //! The waiting fibers, in order of their numbers.
 //!
 //! A fiber's place is found by halving, and those behind it move by one. There is room for as many as may wait, so that only
-//! `new` takes memory. The invariant is `Rise`. The theorems are the clauses of the methods of [`Waiters`], by `row_model`'s
+//! `new` takes memory. The invariant is `AreInOrder`. The theorems are the clauses of the methods of [`Waiters`], by `row_model`'s
 //! `ContextCalls`.
 
 ghost use Rattle.std.specs.Prelude.{◌≡◌, ◌<◌, ◌≤◌, [], length, map, true, false, IfOk};
@@ -29,16 +29,16 @@ pub(crate) struct Waiters {
 }
 
 impl Model for Waiters {
-    ghost use Rattle.std.specs.Prelude.{List, map, length, vec_capacity, ◌≤◌};
+    ghost use Rattle.std.specs.Prelude.{List, map, vec_capacity};
     ghost use Rattle.row_model.specs.Contexts.{Waiting};
 
     ghost Value = { List Waiting };
 
-    ghost use Rattle.cancel_tree.specs.Entered.{waiting_of, Rise};
+    ghost use Rattle.cancel_tree.specs.Entered.{waiting_of, AreInOrder};
 
     ghost view = { λ w. map waiting_of w.entered.items };
 
-    ghost invariant = { λ w. Rise w.entered.items × (length w.entered.items ≤ 1024) × (1024 ≤ vec_capacity w.entered) };
+    ghost invariant = { λ w. AreInOrder w.entered.items (vec_capacity w.entered) };
 }
 
 impl Waiters {

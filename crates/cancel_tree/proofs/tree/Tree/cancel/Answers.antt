@@ -11,7 +11,7 @@ use Rattle.cancel_tree.proofs.tree.Tree.cancel.Goals.{In_default, In-Some, After
 live_as : (c : After-place_of) → is_live c.args.self.now c.args.c ≡ is_some c.place_of.result
 live_as c =
     ap (λ contexts. is_live contexts c.args.c) (sym c.self.view_is)
-    ∙ live_is_placed c.self.inside.made c.self.inside.kept c.self.inside.places.items c.self.invariant.0 c.args.c
+    ∙ live_is_placed c.self.inside.made c.self.inside.kept c.self.inside.places.items c.self.invariant.tree c.args.c
     ∙ ap (λ places. is_some (place_at places c.args.c)) (sym c.deref.ensures.value)
     ∙ ap is_some (sym c.place_of.ensures)
 
@@ -27,15 +27,17 @@ at c = ap (λ places. place_at places c.args.c) (sym c.deref.ensures.value) ∙ 
 
 pub index_mut-requires : goal.index_mut-requires
 index_mut-requires c =
-    let there = is_there c.self.inside.made c.self.inside.kept c.self.inside.places.items c.self.invariant.0 c.in-Some.place (at_own c.self.inside.places.items c.args.c c.in-Some.place (at (goal.at.index_mut-requires c).In-Some)) in
+    let there = is_there c.self.inside.made c.self.inside.kept c.self.inside.places.items c.self.invariant.tree c.in-Some.place (at_own c.self.inside.places.items c.args.c c.in-Some.place (at (goal.at.index_mut-requires c).In-Some)) in
     has_value _ there.0 there.1
 
 pub invariant_of-self : goal.invariant_of-self
-invariant_of-self c = (
-  cancelled_tree c.self.inside.made c.self.inside.kept c.self.inside.places.items c.self.invariant.0 c.args.c c.in-Some.place c.index_mut.result.now c.args.why (at (goal.at.invariant_of-self c).In-Some) c.index_mut.ensures.value,
-  c.self.invariant.1,
-  jumps_cancelled c.self.inside.made c.self.inside.kept c.self.inside.places.items c.self.invariant.0 c.self.invariant.2 c.args.c c.in-Some.place c.index_mut.result.now c.args.why (at (goal.at.invariant_of-self c).In-Some) c.index_mut.ensures.value,
-)
+invariant_of-self c =
+    let there = at (goal.at.invariant_of-self c).In-Some in
+    record {
+      tree = cancelled_tree c.self.inside.made c.self.inside.kept c.self.inside.places.items c.self.invariant.tree c.args.c c.in-Some.place c.index_mut.result.now c.args.why there c.index_mut.ensures.value;
+      jumps = jumps_cancelled c.self.inside.made c.self.inside.kept c.self.inside.places.items c.self.invariant.tree c.self.invariant.jumps c.args.c c.in-Some.place c.index_mut.result.now c.args.why there c.index_mut.ensures.value;
+      room = c.self.invariant.room;
+    }
 
 pub returns-clause-took : goal.returns-clause-took
 returns-clause-took c =
@@ -46,6 +48,6 @@ pub returns-clause-after : goal.returns-clause-after
 returns-clause-after c =
     let after = goal.at.returns-clause-after c in
     let effect : takes_effect c.args.self.now c.args.c ≡ true = takes c.args.self.now c.args.c (live_as after.After-place_of ∙ ap is_some c.in-Some.is) (ap is_some (sym c.off.ensures) ∙ sym c.is_some.ensures ∙ c.if-is_some.false) in
-    cancelled_list c.self.inside.made c.self.inside.kept c.self.inside.places.items c.self.invariant.0 c.args.c c.in-Some.place c.index_mut.result.now c.args.why (at after.In-Some) c.index_mut.ensures.value
+    cancelled_list c.self.inside.made c.self.inside.kept c.self.inside.places.items c.self.invariant.tree c.args.c c.in-Some.place c.index_mut.result.now c.args.why (at after.In-Some) c.index_mut.ensures.value
     (ap (λ contexts. takes_effect contexts c.args.c) c.self.view_is ∙ effect)
     ∙ ap (cancel c.args.c c.args.why) c.self.view_is

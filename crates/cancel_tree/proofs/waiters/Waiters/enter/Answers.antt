@@ -13,7 +13,7 @@ use Rattle.cancel_tree.proofs.waiters.Waiters.enter.Goals.{After-partition_point
 parts : (c : After-partition_point-index) → Parts c.args.fiber c.self.inside.entered.items c.partition_point-index.result
 parts c =
     let found = IsPartitionPoint-from_clause (λ (entered : Entered). nat_lt entered.fiber c.args.fiber) c.deref.result.now c.partition_point-index.result
-    c.partition_point-index.ensures.partitioned (rw c.deref.ensures.value (first_are_lower c.args.fiber _ c.self.invariant.0)) (λ a r f' k. search rules) in
+    c.partition_point-index.ensures.partitioned (rw c.deref.ensures.value (first_are_lower c.args.fiber _ c.self.invariant.rise)) (λ a r f' k. search rules) in
     subst (λ xs. Parts c.args.fiber xs c.partition_point-index.result) c.deref.ensures.value (record { within = c.partition_point-index.ensures.bound; before = found.0; behind = found.1 })
 
 out : (c : After-partition_point-index) → waits c.args.fiber (map waiting_of c.self.inside.entered.items) ≡ false
@@ -29,8 +29,8 @@ invariant_of-self c =
     let old : c.self.inside.entered.len ≡ length c.self.inside.entered.items = c.self.inside.entered.ok.0 in
     let more : c.insert.new.self.len ≡ c.self.inside.entered.len + 1 = c.in_default.ensures.len in
     let grown : vec_capacity c.self.inside.entered ≤ vec_capacity c.insert.new.self = c.insert.ensures.capacity in
-    let room : 1024 ≤ vec_capacity c.self.inside.entered = c.self.invariant.2 in
-    (rw c.in_default.ensures.items (Rise-put (record { fiber = c.args.fiber; context = c.args.context }) c.self.inside.entered.items c.partition_point-index.result (parts begun) (out begun) c.self.invariant.0), omega arith, omega arith)
+    let room : 1024 ≤ vec_capacity c.self.inside.entered = c.self.invariant.room in
+    record { rise = rw c.in_default.ensures.items (Rise-put (record { fiber = c.args.fiber; context = c.args.context }) c.self.inside.entered.items c.partition_point-index.result (parts begun) (out begun) c.self.invariant.rise); few = omega arith; room = omega arith }
 
 pub returns : goal.returns
 returns c =
