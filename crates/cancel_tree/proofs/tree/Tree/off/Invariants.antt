@@ -1,0 +1,9 @@
+use Rattle.cancel_tree.specs.Kept.{contexts_in}
+use Rattle.cancel_tree.proofs.Trees.{OffGoesOn, height}
+use Rattle.cancel_tree.proofs.tree.Tree.off.Given as goal
+
+abbrev pub invariant-way : goal.invariant-way
+invariant-way l = OffGoesOn (contexts_in l.self-inside.made l.self-inside.kept l.self-inside.places.items) l.self-inside.places.items l.c l.next
+
+abbrev pub decreases-way : goal.decreases-way
+decreases-way l = height l.next

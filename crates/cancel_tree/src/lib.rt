@@ -1,0 +1,13 @@
+//! The cancellation contexts of a domain, and the fibers that wait in them.
+#![tactic(auto)]
+
+mod contexts;
+mod forgetting;
+mod kept;
+#[cfg(test)]
+mod tests;
+mod tree;
+mod waiters;
+
+pub use contexts::Contexts;
+pub use forgetting::forgets_nothing_live;
