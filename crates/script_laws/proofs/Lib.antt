@@ -5,9 +5,9 @@ mod Expressions
 mod Captures
 mod Statements
 mod Declarations
-mod Scripts
+pub mod Scripts
 mod SharedSteps
 mod SharedOperands
 mod SharedStatements
 mod SharedScripts
-mod Commands
+pub mod Commands
