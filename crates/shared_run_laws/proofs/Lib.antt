@@ -1,3 +1,4 @@
 pub mod Plain
 pub mod Settling
 pub mod Standings
+pub mod Moving
