@@ -1,4 +1,4 @@
-mod Steps
+pub mod Steps
 mod Lists
 mod Names
 mod Expressions

@@ -32,7 +32,7 @@ use Rattle.machine_model.specs.ObjectMoves as on_objects
 use Rattle.machine_model.specs.DutyMoves as on_duties
 use Rattle.run_laws.proofs.Standings.{all_single}
 use Rattle.shared_run_laws.proofs.Settling.{CallIs, items_are}
-use Rattle.shared_run_laws.proofs.Standings.{OwedIs, DutyIs, Stands, back_stands, parked_stands, made_stands, ends_stands}
+use Rattle.shared_run_laws.proofs.Standings.{OwedIs, DutyIs, RoleIs, Stands, back_stands, parked_stands, made_stands, ends_stands}
 use Rattle.shared_run_laws.proofs.Moving.{BlocksAre, Kept, answers_kept}
 use Rattle.shared_run_laws.proofs.Rows.{MineIs}
 
@@ -52,15 +52,11 @@ module _ (objects : ℕ) where
   if_resolved_stands maker promise (value.Int (negsuc n)) l below h = h
   if_resolved_stands maker promise it l below h = h
 
-  abbrev ExecutorIs : Role → Type 0
-  ExecutorIs (OfJob executor number) = executor < objects
-  ExecutorIs role = Unit {0}
-
-  end_owes_stands : (role : Role) (result : Outcome) (it : Value) (maker : ℕ) (l : DomainState) → ExecutorIs role → Stands objects l → Stands objects (on_objects.owing (ask.End result) role it maker l)
+  end_owes_stands : (role : Role) (result : Outcome) (it : Value) (maker : ℕ) (l : DomainState) → RoleIs objects role → Stands objects l → Stands objects (on_objects.owing (ask.End result) role it maker l)
   end_owes_stands (OfJob executor number) result it maker l below h = owes_stands maker (Start executor) l below h
   end_owes_stands role result it maker l below h = h
 
-  owing_stands : (call : Ask) (role : Role) (it : Value) (maker : ℕ) (l : DomainState) → CallIs objects call → ExecutorIs role → Stands objects l → Stands objects (on_objects.owing call role it maker l)
+  owing_stands : (call : Ask) (role : Role) (it : Value) (maker : ℕ) (l : DomainState) → CallIs objects call → RoleIs objects role → Stands objects l → Stands objects (on_objects.owing call role it maker l)
   owing_stands (ask.OnObjectWith syntax.Resolve promise operand) role it maker l plain below h = owes_stands maker (Wake promise false) l plain h
   owing_stands (ask.OnObjectWith syntax.TryResolve promise operand) role it maker l plain below h = if_resolved_stands maker promise it l plain h
   owing_stands (ask.ResolveEnd promise result) role it maker l plain below h = owes_stands maker (Wake promise false) l plain h
@@ -86,7 +82,7 @@ module _ (objects : ℕ) where
   counted_for_stands (ask.OnObject syntax.Await object) l h = h
   counted_for_stands call l h = h
 
-  pub answered_kept : (call : Ask) (role : Role) (it : Did) (asked : Asked) (given : Answer) (g : ℕ) (l : DomainState) → CallIs objects call → ExecutorIs role → Stands objects l
+  pub answered_kept : (call : Ask) (role : Role) (it : Did) (asked : Asked) (given : Answer) (g : ℕ) (l : DomainState) → CallIs objects call → RoleIs objects role → Stands objects l
       → Kept objects (on_objects.answered_by call role it asked given g l)
   answered_kept call role it asked (answer.Done given) g l plain below h = answered_with_kept call it (said.Done given) given g (on_objects.owing call role given g l) (owing_stands call role given g l plain below h)
   answered_kept call role it asked answer.Waits g l plain below h = parked_stands objects (OnObject asked.who) g (on_objects.owing_wait call g l) tt (owing_wait_stands call g l plain h)

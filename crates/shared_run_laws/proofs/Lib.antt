@@ -4,3 +4,7 @@ pub mod Standings
 pub mod Moving
 pub mod Rows
 pub mod Answering
+pub mod Asking
+pub mod Runs
+pub mod Bodies
+pub mod Both

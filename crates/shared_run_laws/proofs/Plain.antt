@@ -78,7 +78,7 @@ stands_below [] n x e = absurd (cc)
 stands_below (y ∷ ys) zero x e = omega arith
 stands_below (y ∷ ys) (suc n) x e = let below = stands_below ys n x e in omega (arith, below)
 
-abbrev objects_of : Known → ℕ
+abbrev pub objects_of : Known → ℕ
 objects_of known = length known.declared
 
 forking_is_plain : (known : Known) (forking : Forking) → IsSoundForking known forking → IsPlainForking (objects_of known) forking
