@@ -1,5 +1,5 @@
 -- What a move keeps that goes on by an answer from outside, a message or an obligation.
-use Rattle.std.proofs.Common.{◌≡◌, ℕ, ◌<◌, ◌==◌, Bool, true, false, List, [], ◌∷◌, ◌++◌, length, Option, Some, None, refl, ap}
+use Rattle.std.proofs.Common.{ℕ, ◌<◌, ◌==◌, Bool, true, false, List, [], ◌∷◌, length, Option, Some, None, ap}
 use Rattle.std.specs.Prelude.{pos, negsuc, unwrap_or, take, filter, not}
 use Rattle.std.proofs.lemmas.List.Elements.{All-append}
 use Rattle.eio_value.specs.declared.call.Answer.{Answer}
@@ -24,7 +24,7 @@ use Rattle.step_model.specs.Replies.{begun}
 use Rattle.trace_out.specs.declared.line.Did.{Did}
 use Rattle.trace_out.specs.declared.line.Said2.{Said2}
 use Rattle.trace_out.specs.declared.line.Said2.TheVariants as said
-use Rattle.machine_model.specs.Domain.{Role, OfJob, GoesOn, FindsOff, OnObject, Asleep, ForCancel, Standing, Parked, Owed, Strike, Wake, Start, Duty, DomainState, fiber_at, off_for, made, to_back}
+use Rattle.machine_model.specs.Domain.{Role, OfJob, GoesOn, FindsOff, OnObject, Asleep, ForCancel, Standing, Parked, Owed, Strike, Wake, Start, Duty, DomainState, fiber_at, off_for, made}
 use Rattle.machine_model.specs.Steps.{counted, member}
 use Rattle.machine_model.specs.Shared.{Asked}
 use Rattle.machine_model.specs.EndMoves as on_ends

@@ -1,17 +1,15 @@
 -- A script that the mocked domain runs has one body: where no place of a further body is known, nothing stands behind its main.
-use Rattle.std.proofs.Common.{◌≡◌, ℕ, suc, Bool, true, false, List, [], ◌∷◌, length, Option, Some, None, Result, Ok, Err, refl, sym, ap, ◌∙◌, subst}
+use Rattle.std.proofs.Common.{◌≡◌, ℕ, suc, Bool, true, false, [], ◌∷◌, length, Option, Some, None, Result, Ok, Err, refl, ap, subst}
 use Rattle.std.specs.Prelude.{codes}
 use Rattle.script_model.specs.Declarations.{Declared, nothing_declared, declarations_behind}
 use Rattle.script_model.specs.Faults.{ScriptFault, Shape}
-use Rattle.script_model.specs.Features.{Built}
 use Rattle.script_model.specs.Inputs.{input_script, unless_at, mocked_script}
-use Rattle.script_model.specs.Reads.{nothing_made, ◌>>>◌, gives}
+use Rattle.script_model.specs.Reads.{nothing_made}
 use Rattle.script_model.specs.RefusedForms.{domain_only, unbuilt}
 use Rattle.script_model.specs.Refusals.{Refusal, DomainOnly, Unbuilt}
 use Rattle.script_model.specs.Results.{◌>>=◌}
 use Rattle.script_model.specs.Scripts.{Script, items_behind, Parts, parts_of, bodies_of, body, domains, read_parts, script_by, first_place, script_of_parts, is_one, root_of, script_of}
-use Rattle.script_model.specs.Syntax.{Block}
-use Rattle.script_model.specs.Trees.{Tree, Word, Number, Text, Branch, Trees, Nil, And, place_of}
+use Rattle.script_model.specs.Trees.{Tree, Number, Trees, Nil, And, place_of}
 use Rattle.tree_laws.proofs.Steps.{same_Ok, err-ok, both_gave}
 use Rattle.script_laws.proofs.Scripts.{script_is_read}
 use Rattle.script_laws.proofs.Steps.{Gives, given, going_on, past}

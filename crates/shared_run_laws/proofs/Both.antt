@@ -1,9 +1,7 @@
 -- Runs of scripts that both commands run.
-use Rattle.std.proofs.Common.{◌≡◌, ℕ, List, [], length, Ok, sym, subst}
-use Rattle.script_model.specs.Features.{Built}
-use Rattle.script_model.specs.Inputs.{mocked_script, shared_script}
+use Rattle.std.proofs.Common.{ℕ, length, subst}
 use Rattle.script_model.specs.Scripts.{Script}
-use Rattle.machine_model.specs.Mock.{moves, opening}
+use Rattle.machine_model.specs.Mock.{opening}
 use Rattle.machine_model.specs.Trace.{run}
 use Rattle.history_laws.proofs.Rows.{length_mapped}
 use Rattle.script_laws.specs.Sharing.{IsShared}

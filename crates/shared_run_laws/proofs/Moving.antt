@@ -1,7 +1,6 @@
 -- What a domain's own moves keep.
-use Rattle.std.proofs.Common.{◌≡◌, ℕ, zero, suc, ◌+◌, ◌-◌, ◌&&◌, Bool, true, false, List, [], ◌∷◌, ◌++◌, length, Option, Some, None, refl, subst}
-use Rattle.std.specs.Prelude.{ℤ, pos, filter, not, unwrap_or}
-use Rattle.eio_value.specs.declared.plain.Misuse.TheVariants.{SwitchFinished, ContextFinished}
+use Rattle.std.proofs.Common.{ℕ, ◌-◌, ◌&&◌, Bool, true, false, List, [], ◌∷◌, ◌++◌, length, Option, Some, None}
+use Rattle.eio_value.specs.declared.plain.Misuse.TheVariants.{ContextFinished}
 use Rattle.eio_value.specs.declared.plain.Plain.{Plain}
 use Rattle.eio_value.specs.declared.plain.Plain.TheVariants.{Failure, Invalid, Exit}
 use Rattle.eio_value.specs.declared.raised.Outcome.{Outcome}
@@ -27,7 +26,7 @@ use Rattle.trace_out.specs.declared.line.Did.{Did}
 use Rattle.trace_out.specs.declared.line.Did.TheVariants as did
 use Rattle.trace_out.specs.declared.line.Said2.{Said2}
 use Rattle.trace_out.specs.declared.line.Said2.TheVariants as said
-use Rattle.machine_model.specs.Domain.{OfGroup, OfSwitch, GoesOn, LooksUp, FindsOff, Wait, ForCancel, ForOthers, Fiber, DomainState, fiber_at, off_for, is_full_by, made, to_head, placed, moved_to}
+use Rattle.machine_model.specs.Domain.{OfGroup, OfSwitch, GoesOn, LooksUp, FindsOff, ForCancel, ForOthers, Fiber, DomainState, fiber_at, off_for, is_full_by, made, to_head, placed, moved_to}
 use Rattle.machine_model.specs.Steps as steps
 use Rattle.machine_model.specs.Steps.{Step, counted}
 use Rattle.machine_model.specs.ContextMoves as on_contexts

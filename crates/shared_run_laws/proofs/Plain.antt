@@ -1,13 +1,13 @@
 -- What is left of soundness, and of being shared, in whatever a fiber has still to do: no form for the mocked domain alone in any depth, and the number of
 -- each object is that of a declaration.
-use Rattle.std.proofs.Common.{◌≡◌, ℕ, zero, suc, ◌<◌, ◌++◌, Bool, List, [], ◌∷◌, length, Option, Some, None, refl, arith}
+use Rattle.std.proofs.Common.{◌≡◌, ℕ, zero, suc, ◌<◌, ◌++◌, List, [], ◌∷◌, length, Some, arith}
 use Rattle.std.specs.Prelude.{slice_get}
 use Rattle.script_model.specs.Syntax as syntax
 use Rattle.script_model.specs.Syntax.{Forking, Promising, ObjectCall, ObjectCallWith, Statement, LetForm, If, Try, Repeat, Loop, Sub, Protect, Switch, Fork, OnRelease, Branches, OnObject, OnObjectWith, UseRw, UsePool, Submit, Sleep, Now, BufRead, OnReader, TakeBytes, Copy, BufWrite, Put, OpenDir, OnPath, Save, Block, Begins, Statements, Done, Then, Blocks, NoBlocks, AndBlock}
 use Rattle.step_model.specs.Numbered.{blocks_of_statement, blocks_of_branches, blocks_from, blocks_of_statements}
 use Rattle.step_model.specs.Silent.{blocks_of}
 use Rattle.script_laws.specs.Sharing.{IsSharedStatement, IsSharedBlock, AreSharedStatements, AreSharedBlocks}
-use Rattle.script_laws.specs.Soundness.{Known, IsSoundForking, IsSoundStatement, IsSoundBlock, AreSoundStatements, AreSoundBlocks, behind}
+use Rattle.script_laws.specs.Soundness.{Known, IsSoundForking, IsSoundStatement, IsSoundBlock, AreSoundStatements, AreSoundBlocks}
 
 -- a promise that a fork resolves is declared
 abbrev pub IsPlainForking : (objects : ℕ) → Forking → Type 0

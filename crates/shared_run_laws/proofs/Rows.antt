@@ -1,12 +1,11 @@
 -- The jobs that executors hold, and those that they start, name declared executors.
-use Rattle.std.proofs.Common.{◌≡◌, ℕ, zero, suc, ◌+◌, ◌<◌, ◌==◌, ◌&&◌, Bool, true, false, nat_lt, length, List, [], ◌∷◌, ◌++◌, Option, Some, None, refl, arith}
-use Rattle.std.specs.Prelude.{find, map}
+use Rattle.std.proofs.Common.{ℕ, zero, suc, ◌+◌, ◌<◌, ◌==◌, Bool, true, false, nat_lt, length, List, [], ◌∷◌, ◌++◌, Option, Some, None}
+use Rattle.std.specs.Prelude.{find}
 use Rattle.std.specs.List.{All, last_or}
 use Rattle.std.proofs.lemmas.List.Elements.{All-set, All-append, All-map}
 use Rattle.eio_value.specs.declared.call.Answer.TheVariants as answer
 use Rattle.eio_value.specs.declared.call.Call.{Call}
 use Rattle.eio_value.specs.declared.call.Call.TheVariants as call
-use Rattle.eio_value.specs.declared.message.Job.{Job}
 use Rattle.eio_value.specs.declared.message.Message.{Message}
 use Rattle.eio_value.specs.declared.message.Message.TheVariants as message
 use Rattle.eio_value.specs.declared.message.Waiter.{Waiter}
@@ -27,7 +26,7 @@ use Rattle.row_model.specs.Row.{Row, Queued, Start, Sent, Resumes, Starts, Side,
 use Rattle.row_model.specs.Semaphores.{semaphore_does, greatest_count}
 use Rattle.row_model.specs.Streams.{stream_does, take_does}
 use Rattle.row_model.specs.Strikes as strikes
-use Rattle.machine_model.specs.Shared.{SharedState, Asked, no_object, row_at, receiver_of, message_of, mine_of, after_call, after_strike}
+use Rattle.machine_model.specs.Shared.{SharedState, Asked, no_object, row_at, mine_of, after_call, after_strike}
 use Rattle.run_laws.proofs.Places.{at_is, all_head, all_tail}
 use Rattle.run_laws.proofs.Standings.{all_single}
 

@@ -1,24 +1,24 @@
 -- In each state of a run of a plain script all that is left to be done is plain. So no move asks anything of the mocked outside, and no timer ever stands.
-use Rattle.std.proofs.Common.{◌≡◌, ℕ, zero, suc, ◌+◌, ◌<◌, ◌==◌, Bool, true, false, cond, List, [], ◌∷◌, ◌++◌, length, Option, Some, None, refl, subst, arith}
+use Rattle.std.proofs.Common.{◌≡◌, ℕ, zero, suc, ◌+◌, ◌==◌, Bool, true, false, cond, List, [], ◌∷◌, Option, Some, None, refl, subst, arith}
 use Rattle.std.specs.Prelude.{map, find, unwrap_or, get_or}
 use Rattle.std.specs.List.{All, flat_map}
 use Rattle.std.proofs.lemmas.List.Elements.{All-map}
 use Rattle.eio_value.specs.declared.call.Answer.{Answer}
-use Rattle.row_model.specs.Row.{Row, Stepped}
+use Rattle.row_model.specs.Row.{Stepped}
 use Rattle.script_model.specs.Declarations.{Declaration}
 use Rattle.script_model.specs.Declarations as declared
 use Rattle.script_model.specs.Scripts.{Script}
 use Rattle.script_model.specs.Syntax.{Block, Begins, Done}
 use Rattle.step_model.specs.Numbered.{number_of, block_numbered, blocks_from}
 use Rattle.machine_model.specs.Asking.{asks_by}
-use Rattle.machine_model.specs.Domain.{DomainState, fiber_at, wait_of, off_for}
-use Rattle.machine_model.specs.Labels.{Asks, Idle, Own, Calls, Strikes, Mocks, Label, Inner, Called, Struck, Mocked, Took}
-use Rattle.machine_model.specs.Mock.{Mock, Came, Moved, comes, moved_by, move_by, move, moves, opening, first_body, most_jobs}
+use Rattle.machine_model.specs.Domain.{DomainState, fiber_at}
+use Rattle.machine_model.specs.Labels.{Asks, Idle, Own, Calls, Strikes, Mocks}
+use Rattle.machine_model.specs.Mock.{Mock, Moved, comes, moved_by, move_by, move, moves, opening, first_body, most_jobs}
 use Rattle.machine_model.specs.Moves.{own_move, called_move, struck_move, stepped_by}
 use Rattle.machine_model.specs.ObjectMoves.{did_ask}
 use Rattle.machine_model.specs.Preparing as doing
 use Rattle.machine_model.specs.Preparing.{Doing, Prepared, prepared}
-use Rattle.machine_model.specs.Shared.{SharedState, Asked, row_at, stepped, mine_of, strike_wins, declared_row}
+use Rattle.machine_model.specs.Shared.{Asked, row_at, stepped, mine_of, strike_wins, declared_row}
 use Rattle.machine_model.specs.Trace.{last_after}
 use Rattle.run_laws.proofs.Beginnings.{from}
 use Rattle.run_laws.proofs.Places.{all_head, all_tail}
@@ -28,9 +28,9 @@ use Rattle.script_laws.specs.Sharing.{IsSharedBlock}
 use Rattle.script_laws.specs.Soundness.{Known, IsSoundBlock}
 use Rattle.shared_run_laws.proofs.Plain.{IsPlainBlock, ArePlainStatements, ArePlain, plain_append, objects_of, block_is_plain, inside_block}
 use Rattle.shared_run_laws.proofs.Settling.{items_are}
-use Rattle.shared_run_laws.proofs.Standings.{DutyIs, FiberIs, Stands, fiber_is}
+use Rattle.shared_run_laws.proofs.Standings.{FiberIs, Stands, fiber_is}
 use Rattle.shared_run_laws.proofs.Moving.{BlocksAre, Kept, own_call_kept}
-use Rattle.shared_run_laws.proofs.Rows.{DataIs, RowIs, Shares, StepIs, MineIs, row_is, called_is, mine_is, call_shares, strike_shares}
+use Rattle.shared_run_laws.proofs.Rows.{RowIs, Shares, StepIs, row_is, called_is, mine_is, call_shares, strike_shares}
 use Rattle.shared_run_laws.proofs.Answering.{answered_kept, received_stands, own_duty_kept, duty_struck_kept, duty_answered_kept}
 use Rattle.shared_run_laws.proofs.Asking.{DoingIs, Prepares, prepared_prepares, AsksIs, prepared_asks, asks_shared}
 
@@ -75,10 +75,11 @@ module _ (objects : ℕ) (script : Script) (blocks : BlocksAre objects script) w
       let step : Stepped = stepped m.shared asked in
       let steps : StepIs objects step =
       called_is objects (row_at m.shared.rows asked.object) asked.who asked.off asked.serial asked.call (row_is objects m.shared.rows asked.object shares) is.1
-      in
-      (received_stands objects script blocks (mine_of m.local.number (m.local.stamp + 1) step.sent) (called_move it asked step.answer).state
-      (mine_is objects m.local.number (m.local.stamp + 1) step.sent steps.1) (called_kept it.doing it.state asked step.answer prepares.0 prepares.1),
-      call_shares objects m.shared m.local.number (m.local.stamp + 1) asked step steps.0 shares)
+      in (
+        received_stands objects script blocks (mine_of m.local.number (m.local.stamp + 1) step.sent) (called_move it asked step.answer).state
+            (mine_is objects m.local.number (m.local.stamp + 1) step.sent steps.1) (called_kept it.doing it.state asked step.answer prepares.0 prepares.1),
+        call_shares objects m.shared m.local.number (m.local.stamp + 1) asked step steps.0 shares,
+      )
   asks_plain m it prepares shares (Strikes who) is =
       (struck_kept it.doing it.state (strike_wins m.shared who) prepares.0 prepares.1, strike_shares objects m.shared who (strike_wins m.shared who) shares)
   asks_plain m it prepares shares (Mocks asked) is = absurd is
@@ -149,12 +150,14 @@ module _ (objects : ℕ) where
   rows_open most declarations = All-map (RowIs objects) (declared_row most) declarations (λ k d below. row_opens most (get_or declarations k d))
 
   pub opens_plain : (script : Script) (are : ArePlain objects script.bodies) → IsPlain objects script (blocks_are script are) (opening script)
-  opens_plain script are =
-      (((λ k d below. absurd (omega (arith, below))), all_single (FiberIs objects) _ (tt, (items_are objects (first_body script.bodies) (first_plain script.bodies are), tt), tt), refl),
-      rows_open (most_jobs script) script.declarations)
+  opens_plain script are = (
+    ((λ k d below. absurd (omega (arith, below))), all_single (FiberIs objects) _ (tt, (items_are objects (first_body script.bodies) (first_plain script.bodies are), tt), tt), refl),
+    rows_open (most_jobs script) script.declarations,
+  )
 
 pub bodies_plain : (known : Known) (bodies : List Block) → All (IsSoundBlock known) bodies → All IsSharedBlock bodies → ArePlain (objects_of known) bodies
 bodies_plain known [] sound shared = tt
-bodies_plain known (body ∷ bodies) sound shared =
-    (block_is_plain known body (all_head (IsSoundBlock known) body bodies sound) (all_head IsSharedBlock body bodies shared),
-    bodies_plain known bodies (all_tail (IsSoundBlock known) body bodies sound) (all_tail IsSharedBlock body bodies shared))
+bodies_plain known (body ∷ bodies) sound shared = (
+  block_is_plain known body (all_head (IsSoundBlock known) body bodies sound) (all_head IsSharedBlock body bodies shared),
+  bodies_plain known bodies (all_tail (IsSoundBlock known) body bodies sound) (all_tail IsSharedBlock body bodies shared),
+)

@@ -1,18 +1,18 @@
 -- What a fiber has still to do stays plain: its silent statements come to a plain call, and leave plain work behind it.
-use Rattle.std.proofs.Common.{◌≡◌, ℕ, zero, suc, ◌-◌, ◌<◌, Bool, true, false, List, [], ◌∷◌, ◌++◌, length, Option, Some, None}
+use Rattle.std.proofs.Common.{ℕ, zero, suc, ◌-◌, ◌<◌, Bool, true, false, List, [], ◌∷◌, ◌++◌, length, Option, Some, None}
 use Rattle.std.specs.Prelude.{ℤ, pos, negsuc, take, unwrap_or}
 use Rattle.std.specs.List.{last_or}
 use Rattle.eio_value.specs.declared.raised.Outcome.{Outcome}
 use Rattle.eio_value.specs.declared.raised.Outcome.TheVariants as outcome
 use Rattle.eio_value.specs.declared.raised.Raised.{Raised}
 use Rattle.eio_value.specs.declared.value.Value.{Value}
-use Rattle.script_model.specs.Syntax.{Statement, Let, LetForm, If, Give, Raise, Try, Repeat, Loop, Trace, Yield, Check, AwaitCancel, Sub, Protect, Cancel, Switch, Fork, Fail, OnRelease, Branches, OnObject, OnObjectWith, UseRw, UsePool, Submit, Sleep, Now, BufRead, OnReader, TakeBytes, Copy, BufWrite, Put, OpenDir, OnPath, Save, Group, Both, First, All, Any, Block, Begins, Statements, Done, Then, Blocks, NoBlocks, AndBlock}
+use Rattle.script_model.specs.Syntax.{Statement, Let, LetForm, If, Give, Raise, Try, Repeat, Loop, Trace, Yield, Check, AwaitCancel, Sub, Protect, Cancel, Switch, Fork, Fail, OnRelease, Branches, OnObject, OnObjectWith, UseRw, UsePool, Submit, Sleep, Now, BufRead, OnReader, TakeBytes, Copy, BufWrite, Put, OpenDir, OnPath, Save, Group, All, Any, Block, Begins, Statements, Done, Then, Blocks, NoBlocks}
 use Rattle.step_model.specs.Asks as ask
 use Rattle.step_model.specs.Asks.{Ask, again}
 use Rattle.step_model.specs.Evaluation.{Evaluated, Is, Raises, value_of, values_of, number_of}
-use Rattle.step_model.specs.Replies.{passed, Position, own_branch, other_branches, entered, handled}
+use Rattle.step_model.specs.Replies.{passed, own_branch, other_branches, entered, handled}
 use Rattle.step_model.specs.Settling.{Settled, answered, thrown, settle, resource_of}
-use Rattle.step_model.specs.Silent.{Went, Past, Called, Threw, and_then, within, with_value, is_zero, gives, items_of, repeated, branched, blocks_of, statement, block, statements, repeats}
+use Rattle.step_model.specs.Silent.{Went, Past, Called, Threw, and_then, within, with_value, is_zero, gives, items_of, repeated, branched, statement, block, statements, repeats}
 use Rattle.step_model.specs.Work as work
 use Rattle.step_model.specs.Work.{Work, Carry, cut, restored, bound, caught}
 use Rattle.shared_run_laws.proofs.Plain.{IsPlainForking, IsPlainStatement, IsPlainBlock, ArePlainStatements, ArePlainBlocks, ArePlain, plain_listed}

@@ -1,5 +1,5 @@
 -- What the parts of a move keep: plain work in each fiber, plain calls that wait or are made again, obligations to objects that are declared, no copier, and no timer.
-use Rattle.std.proofs.Common.{◌≡◌, ℕ, ◌<◌, Bool, true, false, List, [], ◌∷◌, ◌++◌, Option, Some, None, refl}
+use Rattle.std.proofs.Common.{◌≡◌, ℕ, ◌<◌, Bool, true, false, [], Option, Some, None}
 use Rattle.std.specs.List.{All}
 use Rattle.std.proofs.lemmas.List.Elements.{All-set, All-append, All-map}
 use Rattle.eio_value.specs.declared.plain.Plain.{Plain}
@@ -13,9 +13,8 @@ use Rattle.row_model.specs.Groups as groups
 use Rattle.row_model.specs.Groups.{BranchEnded}
 use Rattle.row_model.specs.Switches as switches
 use Rattle.row_model.specs.Switches.{Switch, Detached}
-use Rattle.row_model.specs.Timers.{Timer}
 use Rattle.step_model.specs.Replies.{Position}
-use Rattle.machine_model.specs.Domain.{Role, OfBody, OfJob, OfSwitch, OfGroup, OfWriter, Next, GoesOn, LooksUp, FindsOff, CallsAgain, Wait, OnObject, Asleep, ForCancel, ForOthers, Resting, Standing, Ready, Parked, Ended, Fiber, Owed, Strike, Wake, Start, Duty, DomainState, fiber_at, never_made, with_fiber, stands, to_head, to_back, placed, moved_to, made, ended}
+use Rattle.machine_model.specs.Domain.{Role, OfBody, OfJob, OfSwitch, OfGroup, OfWriter, Next, CallsAgain, Wait, OnObject, Asleep, ForCancel, ForOthers, Resting, Standing, Ready, Parked, Ended, Fiber, Owed, Strike, Wake, Start, Duty, DomainState, fiber_at, never_made, with_fiber, stands, to_head, to_back, placed, moved_to, made, ended}
 use Rattle.machine_model.specs.Steps.{cancels, strike_by, waiting_from}
 use Rattle.machine_model.specs.ContextMoves.{leaves}
 use Rattle.machine_model.specs.SwitchMoves as on_switches
