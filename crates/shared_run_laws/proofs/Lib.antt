@@ -8,3 +8,4 @@ pub mod Asking
 pub mod Runs
 pub mod Bodies
 pub mod Both
+pub mod WorkedInput
