@@ -1,0 +1,35 @@
+-- Runs of scripts that both commands run.
+use Rattle.std.proofs.Common.{ℕ, length, subst}
+use Rattle.script_model.specs.Scripts.{Script}
+use Rattle.machine_model.specs.Mock.{opening}
+use Rattle.machine_model.specs.Trace.{run}
+use Rattle.history_laws.proofs.Rows.{length_mapped}
+use Rattle.script_laws.specs.Sharing.{IsShared}
+use Rattle.script_laws.specs.Soundness.{kind_of, kinds_of, in_body, IsSound}
+use Rattle.script_laws.proofs.Commands.{domains_are_shared}
+use Rattle.wait_laws.specs.Mocked.{IsHistory}
+use Rattle.wait_laws.proofs.Histories.{mock_runs_are_legal}
+use Rattle.shared_run_laws.specs.Both.{IsOfDomain, RunsOfBothAreOfDomains, MockRunsOfBothAreLegal}
+use Rattle.shared_run_laws.proofs.Plain.{ArePlain}
+use Rattle.shared_run_laws.proofs.Runs.{bodies_plain, blocks_are, opens_plain, moves_plain}
+use Rattle.shared_run_laws.proofs.Bodies.{mocked_has_one}
+
+-- a sound and shared script is plain
+script_plain : (script : Script) → IsSound script → IsShared script → ArePlain (length script.declarations) script.bodies
+script_plain script sound shared =
+    subst (λ (objects : ℕ). ArePlain objects script.bodies) (length_mapped kind_of script.declarations) (bodies_plain (in_body (kinds_of script.declarations)) script.bodies sound.bodies shared.bodies)
+
+plain_runs : (script : Script) → ArePlain (length script.declarations) script.bodies → (n : ℕ) → IsOfDomain script n
+unfolding run
+plain_runs script plain n =
+    let all = moves_plain (length script.declarations) script (blocks_are (length script.declarations) script plain) n (opening script) (opens_plain (length script.declarations) script plain) in
+    record { asks = all.0; untimed = all.1.0.2 }
+
+pub runs_of_both : RunsOfBothAreOfDomains
+runs_of_both built bytes script n mocked shared = (let is = domains_are_shared built bytes script shared in plain_runs script (script_plain script is.0 is.1) n)
+
+pub mock_runs_of_both : MockRunsOfBothAreLegal
+mock_runs_of_both built bytes script n below mocked shared =
+    let is : IsOfDomain script n = runs_of_both built bytes script n mocked shared in
+    let history : IsHistory script (run script n) = mock_runs_are_legal script n below (mocked_has_one built bytes script mocked) is.asks in
+    record { history = history; ending = history.ending is.untimed }

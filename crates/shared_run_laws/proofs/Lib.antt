@@ -1,0 +1,11 @@
+pub mod Plain
+pub mod Settling
+pub mod Standings
+pub mod Moving
+pub mod Rows
+pub mod Answering
+pub mod Asking
+pub mod Runs
+pub mod Bodies
+pub mod Both
+pub mod WorkedInput

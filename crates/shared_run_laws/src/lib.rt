@@ -1,0 +1,23 @@
+//! Laws of runs of scripts that both `mock` and `domains` run, each as the contract of an empty public function.
+//!
+//! A law is stated in `specs/`, and what proves it stands in the file of `proofs/` that its answer names.
+#![tactic(auto)]
+
+ghost use Rattle.shared_run_laws.specs.Both.{MockRunsOfBothAreLegal, MockedScriptsHaveOneBody, RunsOfBothAreOfDomains};
+
+/// The script that `mock` runs of an input has one body.
+pub fn mocked_scripts_have_one_body()
+    ensures { MockedScriptsHaveOneBody }
+{}
+
+/// Where both `mock` and `domains` run the script of an input, a run of it on one mocked domain asks nothing of the mocked
+/// outside and calls only declared objects, and no timer stands at its end.
+pub fn runs_of_both_are_of_domains()
+    ensures { RunsOfBothAreOfDomains }
+{}
+
+/// There each run on one mocked domain is a legal history of the script: the lines are those of the moves, the domain and
+/// all that is shared end as they do in the run, and both have the same ending.
+pub fn mock_runs_of_both_are_legal()
+    ensures { MockRunsOfBothAreLegal }
+{}
