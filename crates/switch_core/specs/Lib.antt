@@ -1,3 +1,4 @@
 pub mod Closers
+pub mod Attached
 pub mod Attaching
 pub mod Answers

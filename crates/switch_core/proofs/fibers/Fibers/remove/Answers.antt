@@ -1,8 +1,14 @@
-use Rattle.std.proofs.Common.{rules, ◌==◌, ℕ, not}
-use Rattle.std.proofs.lemmas.Fn.{filter_same}
+use Rattle.std.proofs.Common.{ap, ◌∙◌}
+use Rattle.row_model.specs.Switches.{without}
+use Rattle.switch_core.specs.Attached.{fibers_of}
+use Rattle.switch_core.proofs.Orders.{fibers_of-remove, timed-remove}
 use Rattle.switch_core.proofs.fibers.Fibers.remove.Goals as goal
+
+pub invariant_of-self : goal.invariant_of-self
+invariant_of-self c = timed-remove c.args.fiber c.self.inside.next c.self.inside.times.entries _ c.self.invariant c.remove.ensures.entries c.remove.ensures.ordered
 
 pub returns : goal.returns
 returns c =
-    let kept = filter_same _ (λ (h : ℕ). not (h == c.args.fiber)) _ (λ x b f' k. search rules) _ _ c.retain.ensures.filtered in
-    rw c.self.view_is at kept
+    ap fibers_of c.remove.ensures.entries
+    ∙ (fibers_of-remove c.args.fiber c.self.inside.times.entries c.self.invariant.apart
+    ∙ ap (without c.args.fiber) c.self.view_is)
