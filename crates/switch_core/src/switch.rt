@@ -147,9 +147,8 @@ impl Switch {
         if self.finished {
             return Err(ReleaseFault::Finished(handler));
         }
-        self.fresh
-            .push(handler)
-            .map_err(|refused| ReleaseFault::NoMemory(refused.value))
+        let pushed = self.fresh.push(handler);
+        pushed.map_err(|refused| ReleaseFault::NoMemory(refused.value))
     }
 
     /// What `close` finds to do, called by this fiber.
