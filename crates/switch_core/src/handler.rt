@@ -1,0 +1,52 @@
+//! Release handlers, as a switch keeps them.
+
+ghost use Rattle.std.specs.Prelude.{◌≡◌};
+
+use eio_value::Value;
+use std::marker::Model;
+
+/// The values of variables, in order, seen as their list.
+#[derive(Debug, Drop)]
+pub struct Variables {
+    values: Vec<Value>,
+}
+
+impl Model for Variables {
+    ghost use Rattle.std.specs.Prelude.{List};
+    ghost use Rattle.eio_value.specs.declared.value.Value.{Value as Item};
+
+    ghost Value = { List Item };
+
+    ghost view = { λ inside. inside.values.items };
+}
+
+impl Variables {
+    /// These values.
+    pub fn new(values: Vec<Value>) -> Variables
+        ensures { result ≡ values.items }
+    {
+        Variables { values }
+    }
+
+    /// The values, in order.
+    pub fn as_slice(&self) -> &[Value]
+        ensures { result.now ≡ self.now }
+    {
+        self.values.as_slice()
+    }
+}
+
+/// A release handler: its block, by the node that it begins with, and the values of the variables when it was registered.
+#[derive(Debug, Drop)]
+pub struct Handler {
+    pub node: u32,
+    pub env: Variables,
+}
+
+impl Model for Handler {
+    ghost use Rattle.row_model.specs.Switches as model;
+
+    ghost Value = { model.Handler };
+
+    ghost view = { λ inside. record { block = inside.node; values = inside.env } };
+}
