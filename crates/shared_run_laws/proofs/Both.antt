@@ -6,13 +6,12 @@ use Rattle.machine_model.specs.Trace.{run}
 use Rattle.history_laws.proofs.Rows.{length_mapped}
 use Rattle.script_laws.specs.Sharing.{IsShared}
 use Rattle.script_laws.specs.Soundness.{kind_of, kinds_of, in_body, IsSound}
-use Rattle.script_laws.proofs.Commands.{domains_are_shared}
+use Rattle.script_laws.proofs.Commands.{mocked_is_sound, domains_are_shared}
 use Rattle.wait_laws.specs.Mocked.{IsHistory}
 use Rattle.wait_laws.proofs.Histories.{mock_runs_are_legal}
 use Rattle.shared_run_laws.specs.Both.{IsOfDomain, RunsOfBothAreOfDomains, MockRunsOfBothAreLegal}
 use Rattle.shared_run_laws.proofs.Plain.{ArePlain}
 use Rattle.shared_run_laws.proofs.Runs.{bodies_plain, blocks_are, opens_plain, moves_plain}
-use Rattle.shared_run_laws.proofs.Bodies.{mocked_has_one}
 
 -- a sound and shared script is plain
 script_plain : (script : Script) → IsSound script → IsShared script → ArePlain (length script.declarations) script.bodies
@@ -31,5 +30,5 @@ runs_of_both built bytes script n mocked shared = (let is = domains_are_shared b
 pub mock_runs_of_both : MockRunsOfBothAreLegal
 mock_runs_of_both built bytes script n below mocked shared =
     let is : IsOfDomain script n = runs_of_both built bytes script n mocked shared in
-    let history : IsHistory script (run script n) = mock_runs_are_legal script n below (mocked_has_one built bytes script mocked) is.asks in
+    let history : IsHistory script (run script n) = mock_runs_are_legal script n below (mocked_is_sound built bytes script mocked).1 is.asks in
     record { history = history; ending = history.ending is.untimed }

@@ -6,6 +6,5 @@ pub mod Rows
 pub mod Answering
 pub mod Asking
 pub mod Runs
-pub mod Bodies
 pub mod Both
 pub mod WorkedInput

@@ -1,6 +1,6 @@
 -- Scripts that both `mock` and `domains` run. Such a script has one body, and nothing in it is for the mocked domain alone. So its run on one mocked domain is a
 -- legal history of that one domain, and ends as the history does.
-use Rattle.std.specs.Prelude.{◌≡◌, ℕ, ◌<◌, List, [], length, Ok}
+use Rattle.std.specs.Prelude.{◌≡◌, ℕ, ◌<◌, List, [], Ok}
 use Rattle.script_model.specs.Features.{Built}
 use Rattle.script_model.specs.Inputs.{mocked_script, shared_script}
 use Rattle.script_model.specs.Scripts.{Script}
@@ -8,10 +8,6 @@ use Rattle.machine_model.specs.Histories.{domains_in, ending_of}
 use Rattle.machine_model.specs.Runs.{stamps_below}
 use Rattle.machine_model.specs.Trace.{run, ending_in}
 use Rattle.wait_laws.specs.Mocked.{AsksOnlyShared, IsHistory}
-
--- the script that `mock` runs has no further body
-abbrev pub MockedScriptsHaveOneBody : Type 0
-MockedScriptsHaveOneBody = (built : Built) (bytes : List ℕ) (script : Script) → mocked_script built bytes ≡ Ok script → length script.bodies ≡ 1
 
 -- a run of at most n moves asks nothing of the mocked outside and calls only declared objects, and no timer stands at its end
 pub record IsOfDomain (script : Script) (n : ℕ) : Type 0 where

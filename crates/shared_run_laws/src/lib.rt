@@ -3,12 +3,7 @@
 //! A law is stated in `specs/`, and what proves it stands in the file of `proofs/` that its answer names.
 #![tactic(auto)]
 
-ghost use Rattle.shared_run_laws.specs.Both.{MockRunsOfBothAreLegal, MockedScriptsHaveOneBody, RunsOfBothAreOfDomains};
-
-/// The script that `mock` runs of an input has one body.
-pub fn mocked_scripts_have_one_body()
-    ensures { MockedScriptsHaveOneBody }
-{}
+ghost use Rattle.shared_run_laws.specs.Both.{MockRunsOfBothAreLegal, RunsOfBothAreOfDomains};
 
 /// Where both `mock` and `domains` run the script of an input, a run of it on one mocked domain asks nothing of the mocked
 /// outside and calls only declared objects, and no timer stands at its end.
