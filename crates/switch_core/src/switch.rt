@@ -1,4 +1,5 @@
-//! One switch. Contracts see a [`Switch`] as the definition's switch; its methods are the definition's functions.
+//! One switch. Contracts see a [`Switch`] as the definition's switch; its methods are the definition's functions, and nothing
+//! has to hold between its fields. What holds of a switch after any calls is stated in src/laws.
 
 ghost use Rattle.std.specs.Prelude.{◌≡◌, ◌↔◌, ◌∷◌, [], Some, IfErr, OnOk, OnErr, IfOk, None, false};
 ghost use Rattle.row_model.specs.Errors.{joined};
@@ -78,6 +79,18 @@ impl Switch {
         }
     }
 
+    pub(crate) fn context(&self) -> u32
+        ensures { result ≡ self.now.context }
+    {
+        self.context
+    }
+
+    pub(crate) fn is_finished(&self) -> bool
+        ensures { result ≡ self.now.finished }
+    {
+        self.finished
+    }
+
     /// Attaches a fiber, unless the switch is finished or runs its handlers.
     pub(crate) fn attach(&mut self, fiber: u32, daemon: bool) -> Result<bool, NoMemory>
         requires { ¬ IsAttached fiber self.old }
@@ -93,18 +106,6 @@ impl Switch {
             self.fibers.push(fiber)?;
         }
         Ok(true)
-    }
-
-    /// Joins an exception to the errors.
-    pub(crate) fn fail(&mut self, raised: Raised) -> Result<(), Finished>
-        ensures ok { OnOk result (fail raised self.old ≡ Some self.new) }
-        ensures err { OnErr result ((fail raised self.old ≡ None) × (self.new ≡ self.old)) }
-    {
-        if self.finished {
-            return Err(Finished);
-        }
-        self.errors = Some(joined(self.errors, raised));
-        Ok(())
     }
 
     /// Takes a fiber off. The fiber that waited for it, as the last one, waits no longer, and is returned.
@@ -135,6 +136,18 @@ impl Switch {
     {
         self.closer = Closer::Nobody;
         Some(closer)
+    }
+
+    /// Joins an exception to the errors.
+    pub(crate) fn fail(&mut self, raised: Raised) -> Result<(), Finished>
+        ensures ok { OnOk result (fail raised self.old ≡ Some self.new) }
+        ensures err { OnErr result ((fail raised self.old ≡ None) × (self.new ≡ self.old)) }
+    {
+        if self.finished {
+            return Err(Finished);
+        }
+        self.errors = Some(joined(self.errors, raised));
+        Ok(())
     }
 
     /// Registers a handler, as the last of the fresh batch.

@@ -52,6 +52,22 @@ impl Switches {
         Ok(number as u32)
     }
 
+    /// The context of a switch.
+    pub fn context(&self, sw: u32) -> u32
+        requires { sw < length self.now }
+        ensures { result ≡ (switch_at self.now sw).context }
+    {
+        self.switches[sw as usize].context()
+    }
+
+    /// Whether a switch has finished.
+    pub fn is_finished(&self, sw: u32) -> bool
+        requires { sw < length self.now }
+        ensures { result ≡ (switch_at self.now sw).finished }
+    {
+        self.switches[sw as usize].is_finished()
+    }
+
     /// Attaches a fiber, as a daemon or not, and answers whether it did: a switch that is finished or runs its handlers
     /// takes none.
     ///

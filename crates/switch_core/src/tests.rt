@@ -35,7 +35,8 @@ fn the_last_fiber_wakes_the_closer(rt: HostRuntime) -> Result<(), Fail> {
 #[test]
 fn a_daemon_is_cancelled(rt: HostRuntime) -> Result<(), Fail> {
     let mut switches = Switches::new(rt.alloc());
-    let sw = switches.open(0)?;
+    let sw = switches.open(4)?;
+    assert_eq!(rt; switches.context(sw), 4);
     assert!(rt; switches.attach(sw, 7, true)?);
     assert!(rt; matches!(switches.close_step(sw, 3), CloseStep::CancelDaemons));
     Ok(())
@@ -64,6 +65,7 @@ fn errors_are_raised_and_then_it_is_finished(rt: HostRuntime) -> Result<(), Fail
     let sw = switches.open(0)?;
     assert!(rt; switches.fail(sw, failure(1)).is_ok());
     assert!(rt; matches!(switches.close_step(sw, 3), CloseStep::Raise(Raised::One(_))));
+    assert!(rt; switches.is_finished(sw));
     assert!(rt; switches.fail(sw, failure(2)).is_err());
     let refused = switches.on_release(sw, handler(rt.alloc(), 5)?);
     let Err(ReleaseFault::Finished(back)) = refused else {
