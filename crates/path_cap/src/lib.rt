@@ -1,0 +1,9 @@
+//! Paths below capabilities.
+//!
+//! A capability names a directory of a tree. A path call goes through a capability, and its path leads nowhere but at or below that
+//! directory, whatever links and dots it has. The theorems stand in `laws`.
+#![tactic(auto)]
+
+mod laws;
+
+pub use laws::{changes_stay_below, leads_stay_below, refused_changes_nothing};
