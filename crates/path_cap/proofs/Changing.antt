@@ -1,15 +1,15 @@
 -- A call changes directories that lie at or below the capability's alone.
-use Rattle.std.proofs.Common.{◌≡◌, ◌≢◌, ℕ, ◌<◌, Bool, true, false, List, [], ◌∷◌, ◌++◌, length, get_or, Ok, Err, refl, ap, sym, ◌∙◌, subst, arith}
+use Rattle.std.proofs.Common.{◌≡◌, ◌≢◌, ℕ, ◌<◌, true, false, List, [], ◌∷◌, ◌++◌, length, get_or, Ok, Err, refl, sym, ◌∙◌, subst}
 use Rattle.std.proofs.lemmas.List.{get_or-set_other, get_or_append_left}
 use Rattle.std.proofs.lemmas.Option.{unwrap_or-slice_get}
 use Rattle.std.specs.Prelude.{Result, slice_set}
 use Rattle.eio_value.specs.declared.plain.PathFault.{PathFault}
 use Rattle.eio_value.specs.declared.plain.PathFault.TheVariants.{NotEmpty}
-use Rattle.row_model.specs.Directories.{Tree, Held, File, Entry, Directory, directory, directory_at, gone, with_entries, put, dropped, put_directory, removed_directory}
+use Rattle.row_model.specs.Directories.{Tree, File, Directory, directory, directory_at, gone, put, dropped, put_directory, removed_directory}
 use Rattle.row_model.specs.Walk.{Step, Leads, ToDirectory, ToFile, ToLink, ToNothing, Refused, resolve}
 use Rattle.row_model.specs.PathCalls.{saved, made, unlinked, emptied, directory_removed, tree_after}
 use Rattle.path_cap.specs.Below.{IsBelow, IsWay}
-use Rattle.path_cap.specs.Changes.{Change, Save, SaveNew, Mkdir, Unlink, Rmdir, answer, after}
+use Rattle.path_cap.specs.Changes.{Change, Save, SaveNew, Mkdir, Unlink, Rmdir, after}
 use Rattle.path_cap.specs.Laws.{LeadsBelow}
 use Rattle.path_cap.proofs.Ways.{way_is_below, resolve_below}
 
@@ -20,7 +20,7 @@ pub other_kept : (tree : Tree) (at : ℕ) (new : Directory) (d : ℕ) → d ≢ 
 other_kept tree at new d ne = directory_at_is (slice_set tree at new) d ∙ (get_or-set_other tree at d new gone ne ∙ sym (directory_at_is tree d))
 
 pub old_kept : (tree : Tree) (new : Directory) (d : ℕ) → d < length tree → directory_at (tree ++ new ∷ []) d ≡ directory_at tree d
-old_kept tree new d old = directory_at_is (tree ++ new ∷ []) d ∙ (get_or_append_left tree (new ∷ []) d gone old ∙ sym (directory_at_is tree d))
+old_kept tree new d old = directory_at_is (tree ++ new ∷ []) d ∙ (get_or_append_left tree (new ∷ []) gone d old ∙ sym (directory_at_is tree d))
 
 -- a directory that lies outside is none that lies at or below
 apart : (tree : Tree) (top d at : ℕ) → (IsBelow tree top d → ⊥) → IsBelow tree top at → d ≢ at

@@ -4,6 +4,10 @@
 //! directory, whatever links and dots it has. The theorems stand in `laws`.
 #![tactic(auto)]
 
+mod directory;
+mod item;
 mod laws;
+mod tree;
 
 pub use laws::{changes_stay_below, leads_stay_below, refused_changes_nothing};
+pub use tree::DirTree;
