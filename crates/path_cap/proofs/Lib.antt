@@ -1,2 +1,4 @@
+pub mod Parts
 pub mod Ways
+pub mod Walking
 pub mod Changing

@@ -4,10 +4,15 @@
 //! directory, whatever links and dots it has. The theorems stand in `laws`.
 #![tactic(auto)]
 
+mod cap;
+mod components;
 mod directory;
 mod item;
 mod laws;
+mod reading;
 mod tree;
+mod walk;
 
+pub use cap::{Cap, CapFault};
 pub use laws::{changes_stay_below, leads_stay_below, refused_changes_nothing};
 pub use tree::DirTree;

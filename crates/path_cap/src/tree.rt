@@ -3,6 +3,7 @@
 ghost use Rattle.std.specs.Prelude.{◌≡◌, option_map, slice_get};
 ghost use Rattle.std.specs.Option.{option_copied};
 ghost use Rattle.row_model.specs.Directories.{directory_at, held_by};
+ghost use Rattle.path_cap.specs.Leading.{content_in};
 ghost use Rattle.path_cap.specs.Nodes.{held_of};
 
 use crate::directory::Directory;
@@ -46,5 +47,15 @@ impl DirTree {
         ensures { option_map (λ node. held_of node.now) result ≡ held_by (directory_at self.now number).entries name.now }
     {
         self.directory(number)?.held(name)
+    }
+
+    /// The content of the file that stands under a name in a directory; of anything else none.
+    pub(crate) fn content(&self, number: u32, name: &[u8]) -> &[u8]
+        ensures { result.now ≡ content_in (held_by (directory_at self.now number).entries name.now) }
+    {
+        match self.held(number, name) {
+            Some(Node::File(content)) => content.as_slice(),
+            _ => &[],
+        }
     }
 }
