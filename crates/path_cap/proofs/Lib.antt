@@ -1,4 +1,6 @@
 pub mod Parts
+pub mod Putting
+pub mod Taking
 pub mod Ways
 pub mod Walking
 pub mod Changing
