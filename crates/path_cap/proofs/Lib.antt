@@ -3,4 +3,4 @@ pub mod Putting
 pub mod Taking
 pub mod Ways
 pub mod Walking
-pub mod Changing
+pub mod Keeping

@@ -1,5 +1,5 @@
 -- The calls that may change a tree, as one type.
-use Rattle.std.specs.Prelude.{ℕ, List, Result}
+use Rattle.std.specs.Prelude.{ℕ, Bool, true, false, List, Result}
 use Rattle.eio_value.specs.declared.plain.PathFault.{PathFault}
 use Rattle.row_model.specs.Directories.{Tree}
 use Rattle.row_model.specs.PathCalls as calls
@@ -18,6 +18,11 @@ answer tree capability (SaveNew path content) = calls.save_new tree capability p
 answer tree capability (Mkdir path) = calls.mkdir tree capability path
 answer tree capability (Unlink path) = calls.unlink tree capability path
 answer tree capability (Rmdir path) = calls.rmdir tree capability path
+
+-- `save` as it is called: any file, or only a new one
+abbrev pub saving : (only_new : Bool) → Tree → (capability : ℕ) → (path content : List ℕ) → Result Tree PathFault
+saving true tree capability path content = calls.save_new tree capability path content
+saving false tree capability path content = calls.save tree capability path content
 
 -- the tree after a call, whatever it answers
 abbrev pub after : Tree → (capability : ℕ) → Change → Tree

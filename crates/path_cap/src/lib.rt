@@ -5,6 +5,7 @@
 #![tactic(auto)]
 
 mod cap;
+mod changing;
 mod components;
 mod directory;
 mod item;

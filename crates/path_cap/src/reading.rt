@@ -43,6 +43,15 @@ impl DirTree {
         }
     }
 
+    /// The names in the directory that a path leads to, in the order of their bytes.
+    pub fn read_dir(&self, alloc: Global, cap: Cap, path: &[u8]) -> Result<Vec<Vec<u8>>, CapFault>
+        ensures ok { IfOk result (λ names. model.read_dir self.now cap.0 path.now ≡ Ok (map (λ name. name.items) names.items)) }
+        ensures fault { IfErr result (λ fault. Refuses fault (model.read_dir self.now cap.0 path.now)) }
+    {
+        let opened = self.open_dir(alloc, cap, path)?;
+        Ok(self.names(alloc, opened.0)?)
+    }
+
     /// What stands at a path: a last link isn't followed.
     pub fn kind(&self, alloc: Global, cap: Cap, path: &[u8]) -> Result<PathKind, CapFault>
         ensures ok { IfOk result (λ kind. model.kind self.now cap.0 path.now ≡ Ok kind) }

@@ -1,7 +1,8 @@
 //! The walk along a path below a capability. It keeps the way down from the capability, so `..` goes back up that way and never above
 //! the capability. The theorem is the clause of [`resolve`]; that its way stays below the capability is the law `leads_stay_below`.
 
-ghost use Rattle.std.specs.Prelude.{◌≡◌, [], ◌||◌, not, if◌then◌else◌, IfOk, OnOk};
+ghost use Rattle.std.specs.Prelude.{◌≡◌, [], ◌||◌, not, slice_get, if◌then◌else◌, IfOk, OnOk};
+ghost use Rattle.std.specs.Option.{option_copied};
 ghost use Rattle.eio_value.specs.declared.plain.PathFault.TheVariants.{PermissionDenied};
 ghost use Rattle.row_model.specs.Walk as model;
 ghost use Rattle.path_cap.specs.Leading.{leads_of, by_link};
@@ -76,6 +77,13 @@ impl Place {
         ensures { result ≡ self.now.here }
     {
         self.here
+    }
+
+    /// The last step, where the place isn't the capability's own directory.
+    pub fn last_step(&self) -> Option<&Step>
+        ensures { option_copied result ≡ slice_get self.now.steps 0 }
+    {
+        self.steps.last()
     }
 
     /// Goes back up, but not above the capability; whether it did.

@@ -1,4 +1,4 @@
-use Rattle.path_cap.proofs.Changing.{change_keeps}
+use Rattle.path_cap.proofs.Keeping.{change_keeps}
 use Rattle.path_cap.proofs.laws.changes_stay_below.Goals as goal
 
 pub returns : goal.returns
