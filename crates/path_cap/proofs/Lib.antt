@@ -1,5 +1,6 @@
 pub mod Parts
 pub mod Putting
+pub mod Placing
 pub mod Taking
 pub mod Ways
 pub mod Walking

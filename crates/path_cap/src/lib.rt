@@ -10,6 +10,7 @@ mod components;
 mod directory;
 mod item;
 mod laws;
+mod making;
 mod reading;
 mod tree;
 mod walk;
@@ -17,3 +18,6 @@ mod walk;
 pub use cap::{Cap, CapFault};
 pub use laws::{changes_stay_below, leads_stay_below, refused_changes_nothing};
 pub use tree::DirTree;
+
+#[cfg(test)]
+mod tests;

@@ -1,6 +1,6 @@
 //! A tree of directories, each with a number: its place. Clauses see it as the definition's tree.
 
-ghost use Rattle.std.specs.Prelude.{◌≡◌, ◌==◌, ◌<◌, ◌^◌, length, map, option_map, slice_get, IfOk, OnOk, OnErr};
+ghost use Rattle.std.specs.Prelude.{◌≡◌, ◌==◌, ◌∷◌, [], ◌<◌, ◌^◌, length, map, option_map, slice_get, IfOk, OnOk, OnErr};
 ghost use Rattle.std.specs.Option.{option_copied};
 ghost use Rattle.row_model.specs.Directories as model;
 ghost use Rattle.row_model.specs.Directories.{directory_at, held_by};
@@ -28,6 +28,30 @@ impl Model for DirTree {
 }
 
 impl DirTree {
+    /// A tree of an empty root.
+    pub(crate) fn with_root(alloc: Global) -> Result<DirTree, NoMemory>
+        ensures { IfOk result (λ tree. tree ≡ model.directory [] ∷ []) }
+    {
+        let mut directories = Vec::new(alloc);
+        directories.push(Directory::new(alloc))?;
+        Ok(DirTree { directories })
+    }
+
+    /// How many directories were made, those that were removed among them.
+    pub fn directory_count(&self) -> usize
+        ensures { result ≡ length self.now }
+    {
+        self.directories.len()
+    }
+
+    /// The number that the next directory gets.
+    pub(crate) fn next_number(&self) -> u32
+        requires { length self.now < 2 ^ 32 }
+        ensures { result ≡ length self.now }
+    {
+        self.directories.len() as u32
+    }
+
     /// The directory of a number, where there is one.
     pub(crate) fn directory(&self, number: u32) -> Option<&Directory>
         ensures { option_copied result ≡ slice_get self.now number }
@@ -105,7 +129,7 @@ impl DirTree {
         ensures ok { OnOk result (self.new ≡ model.put_directory number name self.old) }
         ensures err { OnErr result (self.new ≡ self.old) }
     {
-        let next = self.directories.len() as u32;
+        let next = self.next_number();
         self.directories.push(Directory::new(alloc))?;
         let made = self.put(number, name, Node::Inner(next));
         if made.is_err() {
