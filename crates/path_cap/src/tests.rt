@@ -58,6 +58,7 @@ fn bytes(alloc: Global, text: &str) -> Result<Bytes, NoMemory> {
 }
 
 /// A tree with a link to itself, `a`, and one that leads up, `l`.
+#[tactic(auto, unfolding(eio_value::specs::Directory::entry_count))]
 fn tree_of_links(alloc: Global) -> Result<DirTree, NoMemory> {
     let up = Entry::Link(bytes(alloc, "l")?, bytes(alloc, "..")?);
     let itself = Entry::Link(bytes(alloc, "a")?, bytes(alloc, "a")?);
