@@ -1,0 +1,7 @@
+pub mod Parts
+pub mod Putting
+pub mod Placing
+pub mod Taking
+pub mod Ways
+pub mod Walking
+pub mod Keeping

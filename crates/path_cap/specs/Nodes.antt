@@ -1,0 +1,9 @@
+-- What names stand for in code, as the definitions see it.
+use Rattle.row_model.specs.Directories as model
+use Rattle.path_cap.specs.declared.item.Node.{Node}
+use Rattle.path_cap.specs.declared.item.Node.TheVariants as node
+
+abbrev pub held_of : Node → model.Held
+held_of (node.File content) = model.File content
+held_of (node.Link target) = model.Link target
+held_of (node.Inner directory) = model.Inner directory

@@ -1,0 +1,56 @@
+//! An entry of a directory: a name and what it stands for. Clauses see it as the definition's entry.
+
+ghost use Rattle.std.specs.Prelude.{◌≡◌};
+
+use eio_value::Bytes;
+use std::marker::Model;
+
+/// What a name stands for.
+#[derive(Debug, Drop)]
+pub enum Node {
+    /// A file and its content.
+    File(Bytes),
+    /// A link and the path that it leads to.
+    Link(Bytes),
+    /// The directory of this number.
+    Inner(u32),
+}
+
+/// A name, and what it stands for.
+#[derive(Debug, Drop)]
+pub struct Item {
+    name: Bytes,
+    node: Node,
+}
+
+impl Model for Item {
+    ghost use Rattle.row_model.specs.Directories.{Entry};
+
+    ghost Value = { Entry };
+
+    ghost use Rattle.path_cap.specs.Nodes.{held_of};
+
+    ghost view = { λ inside. record { name = inside.name; held = held_of inside.node } };
+}
+
+impl Item {
+    ghost use Rattle.path_cap.specs.Nodes.{held_of};
+
+    pub fn new(name: Bytes, node: Node) -> Item
+        ensures { result ≡ record { name = name; held = held_of node } }
+    {
+        Item { name, node }
+    }
+
+    pub fn name(&self) -> &[u8]
+        ensures { result.now ≡ self.now.name }
+    {
+        self.name.as_slice()
+    }
+
+    pub fn node(&self) -> &Node
+        ensures { held_of result.now ≡ self.now.held }
+    {
+        &self.node
+    }
+}
