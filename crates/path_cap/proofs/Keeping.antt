@@ -1,15 +1,15 @@
 -- A call changes directories that lie at or below the capability's alone.
-use Rattle.std.proofs.Common.{◌≡◌, ◌≢◌, ℕ, ◌<◌, true, false, List, [], ◌∷◌, ◌++◌, length, get_or, Ok, Err, refl, sym, ◌∙◌, subst}
+use Rattle.std.proofs.Common.{◌≡◌, ◌≢◌, ℕ, ◌<◌, true, false, List, [], ◌∷◌, ◌++◌, length, get_or, Ok, Err, refl, sym, ◌∙◌, subst, ap}
 use Rattle.std.proofs.lemmas.List.{get_or-set_other, get_or_append_left}
 use Rattle.std.proofs.lemmas.Option.{unwrap_or-slice_get}
-use Rattle.std.specs.Prelude.{Result, slice_set}
+use Rattle.std.specs.Prelude.{Result, slice_set, OnOk, OnErr}
 use Rattle.eio_value.specs.declared.plain.PathFault.{PathFault}
 use Rattle.eio_value.specs.declared.plain.PathFault.TheVariants.{NotEmpty}
 use Rattle.row_model.specs.Directories.{Tree, File, Directory, directory, directory_at, gone, put, dropped, put_directory, removed_directory}
 use Rattle.row_model.specs.Walk.{Step, Leads, ToDirectory, ToFile, ToLink, ToNothing, Refused, resolve}
 use Rattle.row_model.specs.PathCalls.{saved, made, unlinked, emptied, directory_removed, tree_after}
-use Rattle.path_cap.specs.Below.{IsBelow, IsWay}
-use Rattle.path_cap.specs.Changes.{Change, Save, SaveNew, Mkdir, Unlink, Rmdir, after}
+use Rattle.path_cap.specs.Below.{IsBelow, IsWay, KeepsOutside}
+use Rattle.path_cap.specs.Changes.{Change, Save, SaveNew, Mkdir, Unlink, Rmdir, after, answer}
 use Rattle.path_cap.specs.Laws.{LeadsBelow}
 use Rattle.path_cap.proofs.Ways.{way_is_below, resolve_below}
 
@@ -72,7 +72,7 @@ directory_removed_keeps tree top d (Refused fault) outside below = refl
 directory_made_keeps : (tree : Tree) (d : ℕ) → d < length tree → (above : ℕ) (name : List ℕ) → d ≢ above → directory_at (put_directory above name tree) d ≡ directory_at tree d
 directory_made_keeps tree d old above name ne = other_kept (tree ++ directory [] ∷ []) above _ d ne ∙ old_kept tree (directory []) d old
 
-pub change_keeps : (tree : Tree) (top : ℕ) (change : Change) (d : ℕ) → d < length tree → (IsBelow tree top d → ⊥) → directory_at (after tree top change) d ≡ directory_at tree d
+change_keeps : (tree : Tree) (top : ℕ) (change : Change) (d : ℕ) → d < length tree → (IsBelow tree top d → ⊥) → directory_at (after tree top change) d ≡ directory_at tree d
 change_keeps tree top (Save path content) d old outside = saved_keeps tree top d content (resolve tree top path true) outside (resolve_below tree top path true)
 change_keeps tree top (SaveNew path content) d old outside =
     made_keeps tree top d (λ above name. put above name (File content) tree) (resolve tree top path false) (λ above name ne. other_kept tree above _ d ne) outside (resolve_below tree top path false)
@@ -80,3 +80,19 @@ change_keeps tree top (Mkdir path) d old outside =
     made_keeps tree top d (λ above name. put_directory above name tree) (resolve tree top path false) (directory_made_keeps tree d old) outside (resolve_below tree top path false)
 change_keeps tree top (Unlink path) d old outside = unlinked_keeps tree top d (resolve tree top path false) outside (resolve_below tree top path false)
 change_keeps tree top (Rmdir path) d old outside = directory_removed_keeps tree top d (resolve tree top path false) outside (resolve_below tree top path false)
+
+pub changes_keep : (tree : Tree) (top : ℕ) (change : Change) → KeepsOutside tree top (after tree top change)
+changes_keep tree top change = record { same = λ d old outside. change_keeps tree top change d old outside }
+
+-- so does the tree that a call answers
+pub answered_keeps : (tree new : Tree) (top : ℕ) (change : Change) → answer tree top change ≡ Ok new → KeepsOutside tree top new
+answered_keeps tree new top change is = subst (λ answered. KeepsOutside tree top (tree_after tree answered)) is (changes_keep tree top change)
+
+-- and a tree that is as it was
+pub unchanged_keeps : (tree new : Tree) (top : ℕ) → new ≡ tree → KeepsOutside tree top new
+unchanged_keeps tree new top is = record { same = λ d old outside. ap (λ (t : Tree). directory_at t d) is }
+
+-- whichever of the two it is
+pub either_keeps : {E : Type 0} (tree new : Tree) (top : ℕ) (change : Change) (r : Result (Unit {0}) E) → OnOk r (answer tree top change ≡ Ok new) → OnErr r (new ≡ tree) → KeepsOutside tree top new
+either_keeps tree new top change (Ok done) ok err = answered_keeps tree new top change ok
+either_keeps tree new top change (Err fault) ok err = unchanged_keeps tree new top err

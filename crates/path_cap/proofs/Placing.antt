@@ -1,5 +1,5 @@
 -- Declared entries, put into a directory one after another.
-use Rattle.std.proofs.Common.{◌≡◌, ℕ, suc, ◌+◌, ◌<◌, ◌≤◌, List, [], ◌∷◌, ◌++◌, length, get_or, drop, length-append, refl, ap, sym, ◌∙◌, subst, arith, drop-cons, add-one}
+use Rattle.std.proofs.Common.{◌≡◌, ℕ, suc, ◌+◌, ◌<◌, List, [], ◌∷◌, ◌++◌, length, get_or, drop, length-append, refl, ap, sym, ◌∙◌, drop-cons, add-one}
 use Rattle.std.proofs.lemmas.List.{length-set}
 use Rattle.eio_value.specs.Directory.{entry_count, item_count}
 use Rattle.eio_value.specs.EntriesInside.{directory_of, item_of}

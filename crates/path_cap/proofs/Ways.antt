@@ -90,3 +90,8 @@ opened_below tree top (ToFile above name content) directory below e = cc
 opened_below tree top (ToLink above name target) directory below e = cc
 opened_below tree top (ToNothing above name) directory below e = cc
 opened_below tree top (Refused fault) directory below e = cc
+
+pub opened_here : (tree : Tree) (top : ℕ) (path : List ℕ) (follow : Bool) (place : Place) (here : ℕ) → ToDirectory place ≡ resolve tree top path follow → here ≡ place.here → IsBelow tree top here
+opened_here tree top path follow place here is same =
+    let below = subst (λ leads. LeadsBelow tree top leads) (sym is) (resolve_below tree top path follow) in
+    subst (λ d. IsBelow tree top d) (sym same) below.0

@@ -1,5 +1,5 @@
 -- Which directories lie at or below one.
-use Rattle.std.specs.Prelude.{◌≡◌, ℕ, List, [], ◌∷◌, Some}
+use Rattle.std.specs.Prelude.{◌≡◌, ℕ, ◌<◌, List, [], ◌∷◌, length, Some}
 use Rattle.row_model.specs.Directories.{Tree, Inner, directory_at, held_by}
 use Rattle.row_model.specs.Walk.{Step}
 
@@ -17,3 +17,7 @@ pub data IsBelow (tree : Tree) (top : ℕ) : ℕ → Type 0 where
 abbrev pub IsWay : Tree → (top : ℕ) → (here : ℕ) → List Step → Type 0
 IsWay tree top here [] = here ≡ top
 IsWay tree top here (step ∷ steps) = StandsIn tree step.above step.name here × IsWay tree top step.above steps
+
+-- each directory that the old tree had, and that lies there neither at nor below the top, is the same in the new one
+pub record KeepsOutside (old : Tree) (top : ℕ) (new : Tree) : Type 0 where
+  pub same : (directory : ℕ) → directory < length old → (IsBelow old top directory → ⊥) → directory_at new directory ≡ directory_at old directory

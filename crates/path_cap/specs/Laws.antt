@@ -1,10 +1,10 @@
 -- What holds of every path call through a capability, whatever the tree, its links and the path.
-use Rattle.std.specs.Prelude.{◌≡◌, ℕ, ◌<◌, Bool, List, length, Some, None, Ok, Err}
+use Rattle.std.specs.Prelude.{◌≡◌, ℕ, Bool, List, Some, None, Ok, Err}
 use Rattle.eio_value.specs.declared.plain.PathFault.{PathFault}
 use Rattle.row_model.specs.Directories.{Tree, File, Link, directory_at, held_by}
 use Rattle.row_model.specs.Walk.{Leads, ToDirectory, ToFile, ToLink, ToNothing, Refused, resolve}
 use Rattle.row_model.specs.PathCalls.{open_dir}
-use Rattle.path_cap.specs.Below.{IsBelow, IsWay}
+use Rattle.path_cap.specs.Below.{IsBelow, IsWay, KeepsOutside}
 use Rattle.path_cap.specs.Changes.{Change, answer, after}
 
 -- where a path leads, a directory lies at or below the top: the one that it leads to, with the steps that lead there from the top,
@@ -24,10 +24,9 @@ LeadsStayBelow = (tree : Tree) (capability : ℕ) (path : List ℕ) (follow : Bo
 abbrev pub OpensBelow : Type 0
 OpensBelow = (tree : Tree) (capability : ℕ) (path : List ℕ) (directory : ℕ) → open_dir tree capability path ≡ Ok directory → IsBelow tree capability directory
 
--- each directory of the tree that lies neither at nor below the capability's is the same after a call
+-- a call changes no directory of the tree that lies neither at nor below the capability's
 abbrev pub ChangesStayBelow : Type 0
-ChangesStayBelow = (tree : Tree) (capability : ℕ) (change : Change) (directory : ℕ) → directory < length tree → (IsBelow tree capability directory → ⊥)
-    → directory_at (after tree capability change) directory ≡ directory_at tree directory
+ChangesStayBelow = (tree : Tree) (capability : ℕ) (change : Change) → KeepsOutside tree capability (after tree capability change)
 
 -- a call that is refused leaves the tree as it was
 abbrev pub RefusedChangesNothing : Type 0

@@ -3,6 +3,7 @@
 
 ghost use Rattle.std.specs.Prelude.{◌≡◌, ◌<◌, ◌^◌, length, Ok, IfErr, OnOk, OnErr};
 ghost use Rattle.row_model.specs.PathCalls as model;
+ghost use Rattle.path_cap.specs.Below.{KeepsOutside};
 ghost use Rattle.path_cap.specs.Changes.{saving};
 ghost use Rattle.path_cap.specs.Faults.{Refuses};
 
@@ -13,6 +14,7 @@ use crate::walk::{Leads, Place, resolve};
 use eio_value::{Bytes, PathFault};
 use std::alloc::Global;
 
+#[tactic(auto, using(crate::proofs::Keeping::unchanged_keeps))]
 impl DirTree {
     /// Writes a file with this content: a new one, or, unless only a new one is wanted, in place of the one that a path leads to. A last link is
     /// followed where any file will do, so that the file is written or made where it leads.
@@ -27,6 +29,7 @@ impl DirTree {
         ensures ok { OnOk result (saving only_new self.old cap.0 path.now content.now ≡ Ok self.new) }
         ensures fault { IfErr result (λ fault. Refuses fault (saving only_new self.old cap.0 path.now content.now)) }
         ensures err { OnErr result (self.new ≡ self.old) }
+        ensures outside { KeepsOutside self.old cap.0 self.new }
     {
         if only_new {
             self.save_new(alloc, cap, path, content)
@@ -45,6 +48,7 @@ impl DirTree {
         ensures ok { OnOk result (model.save self.old cap.0 path.now content.now ≡ Ok self.new) }
         ensures fault { IfErr result (λ fault. Refuses fault (model.save self.old cap.0 path.now content.now)) }
         ensures err { OnErr result (self.new ≡ self.old) }
+        ensures outside { KeepsOutside self.old cap.0 self.new }
     {
         match resolve(alloc, self, cap.0, path, true)? {
             Leads::ToDirectory(_) => Err(CapFault::Path(PathFault::IsDirectory)),
@@ -68,6 +72,7 @@ impl DirTree {
         ensures ok { OnOk result (model.save_new self.old cap.0 path.now content.now ≡ Ok self.new) }
         ensures fault { IfErr result (λ fault. Refuses fault (model.save_new self.old cap.0 path.now content.now)) }
         ensures err { OnErr result (self.new ≡ self.old) }
+        ensures outside { KeepsOutside self.old cap.0 self.new }
     {
         match resolve(alloc, self, cap.0, path, false)? {
             Leads::ToNothing(above, name) => {
@@ -85,6 +90,7 @@ impl DirTree {
         ensures ok { OnOk result (model.mkdir self.old cap.0 path.now ≡ Ok self.new) }
         ensures fault { IfErr result (λ fault. Refuses fault (model.mkdir self.old cap.0 path.now)) }
         ensures err { OnErr result (self.new ≡ self.old) }
+        ensures outside { KeepsOutside self.old cap.0 self.new }
     {
         match resolve(alloc, self, cap.0, path, false)? {
             Leads::ToNothing(above, name) => Ok(self.put_directory(alloc, above, name)?),
@@ -98,6 +104,7 @@ impl DirTree {
         ensures ok { OnOk result (model.unlink self.old cap.0 path.now ≡ Ok self.new) }
         ensures fault { IfErr result (λ fault. Refuses fault (model.unlink self.old cap.0 path.now)) }
         ensures err { OnErr result (self.new ≡ self.old) }
+        ensures outside { KeepsOutside self.old cap.0 self.new }
     {
         match resolve(alloc, self, cap.0, path, false)? {
             Leads::ToDirectory(_) => Err(CapFault::Path(PathFault::IsDirectory)),
@@ -115,6 +122,7 @@ impl DirTree {
         ensures ok { OnOk result (model.rmdir self.old cap.0 path.now ≡ Ok self.new) }
         ensures fault { IfErr result (λ fault. Refuses fault (model.rmdir self.old cap.0 path.now)) }
         ensures err { OnErr result (self.new ≡ self.old) }
+        ensures outside { KeepsOutside self.old cap.0 self.new }
     {
         match resolve(alloc, self, cap.0, path, false)? {
             Leads::ToDirectory(place) => self.remove_at(&place),

@@ -3,6 +3,7 @@
 
 ghost use Rattle.std.specs.Prelude.{◌≡◌, Ok, IfOk, IfErr, map, option_map};
 ghost use Rattle.row_model.specs.PathCalls as model;
+ghost use Rattle.path_cap.specs.Below.{IsBelow};
 ghost use Rattle.path_cap.specs.Faults.{Refuses};
 
 use crate::cap::{Cap, CapFault};
@@ -17,6 +18,7 @@ impl DirTree {
     /// The capability of the directory that a path leads to.
     pub fn open_dir(&self, alloc: Global, cap: Cap, path: &[u8]) -> Result<Cap, CapFault>
         ensures ok { IfOk result (λ opened. model.open_dir self.now cap.0 path.now ≡ Ok opened.0) }
+        ensures below { IfOk result (λ opened. IsBelow self.now cap.0 opened.0) }
         ensures fault { IfErr result (λ fault. Refuses fault (model.open_dir self.now cap.0 path.now)) }
     {
         match resolve(alloc, self, cap.0, path, true)? {

@@ -1,9 +1,8 @@
-use Rattle.std.proofs.Common.{◌≡◌, ℕ, ◌<◌, ◌≤◌, ◌+◌, List, [], length, drop, ap, sym, ◌∙◌, subst, arith}
+use Rattle.std.proofs.Common.{◌≡◌, ◌<◌, ◌+◌, [], length, drop, ap, sym, ◌∙◌, arith}
 use Rattle.std.proofs.lemmas.Result.{on_ok_weaker}
 use Rattle.std.proofs.lemmas.Grind.{common_steps}
-use Rattle.eio_value.specs.Directory.{entry_count, item_count}
-use Rattle.eio_value.specs.EntriesInside.{directory_of, item_of}
-use Rattle.eio_value.specs.declared.entry.Entry.{Entry}
+use Rattle.eio_value.specs.Directory.{entry_count}
+use Rattle.eio_value.specs.EntriesInside.{directory_of}
 use Rattle.row_model.specs.Directories.{Tree, placed}
 use Rattle.path_cap.proofs.Placing.{placed_none, placed_more, count_more, placed_file, placed_link, placed_sub, count_sub, length-put_directory}
 use Rattle.path_cap.proofs.tree.DirTree.+place.Goals as goal

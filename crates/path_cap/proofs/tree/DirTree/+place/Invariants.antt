@@ -1,4 +1,4 @@
-use Rattle.std.proofs.Common.{◌≡◌, ◌≤◌, ◌+◌, ◌*◌, ◌^◌, length, drop}
+use Rattle.std.proofs.Common.{◌≡◌, ◌≤◌, ◌+◌, ◌*◌, length, drop}
 use Rattle.eio_value.specs.Directory.{entry_count, item_count}
 use Rattle.eio_value.specs.EntriesInside.{directory_of, item_of}
 use Rattle.row_model.specs.Directories.{placed}
