@@ -1,10 +1,10 @@
 //! One switch. Contracts see a [`Switch`] as the definition's switch; its methods are the definition's functions, and nothing
 //! has to hold between its fields. What holds of a switch after any calls is stated in src/laws.
 
-ghost use Rattle.std.specs.Prelude.{◌≡◌, ◌↔◌, ◌∷◌, [], Some, IfErr, OnOk, OnErr, IfOk, None, false};
+ghost use Rattle.std.specs.Prelude.{◌≡◌, ◌↔◌, ◌∷◌, [], Some, IfErr, IsTrue, OnOk, OnErr, IfOk, None, false};
 ghost use Rattle.row_model.specs.Errors.{joined};
 ghost use Rattle.row_model.specs.Switches as model;
-ghost use Rattle.row_model.specs.Switches.{opened, attach, detach, wake_closer, fail, on_release, due_batch, fresh_beside, last_handler, all_but_last, finish, release, close_step, runs_handler};
+ghost use Rattle.row_model.specs.Switches.{opened, refuses_fibers, attach, detach, wake_closer, fail, on_release, due_batch, fresh_beside, last_handler, all_but_last, finish, release, close_step, runs_handler};
 ghost use Rattle.switch_core.specs.Attaching.{IsAttached};
 ghost use Rattle.switch_core.specs.Answers.{handler_in, step_of};
 
@@ -95,6 +95,7 @@ impl Switch {
     pub(crate) fn attach(&mut self, fiber: u32, daemon: bool) -> Result<bool, NoMemory>
         requires { ¬ IsAttached fiber self.old }
         ensures ok { IfOk result (λ taken. record { taken = taken; switch = self.new } ≡ attach fiber daemon self.old) }
+        ensures refused { (result ≡ Ok false) ↔ IsTrue (refuses_fibers self.old) }
         ensures err { OnErr result (self.new ≡ self.old) }
     {
         if self.finished || self.running {

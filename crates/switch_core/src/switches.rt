@@ -1,8 +1,8 @@
 //! All switches of a domain, by number. What each call does to the switch that it names is the definition's function of the
 //! same name; all others stay as they were.
 
-ghost use Rattle.std.specs.Prelude.{◌≡◌, ◌<◌, ◌-◌, ◌^◌, ◌↔◌, [], ◌∷◌, ◌++◌, length, None, Some, false, IfOk, IfErr, OnOk, OnErr, IsSomeAnd};
-ghost use Rattle.row_model.specs.Switches.{opened, switch_at, with_switch, attach, detach, fail, on_release, close_step, runs_handler};
+ghost use Rattle.std.specs.Prelude.{◌≡◌, ◌<◌, ◌-◌, ◌^◌, ◌↔◌, [], ◌∷◌, ◌++◌, length, None, Some, false, IfOk, IfErr, IsTrue, OnOk, OnErr, IsSomeAnd};
+ghost use Rattle.row_model.specs.Switches.{opened, switch_at, with_switch, refuses_fibers, attach, detach, fail, on_release, close_step, runs_handler};
 ghost use Rattle.switch_core.specs.Answers.{handler_in, step_of};
 ghost use Rattle.switch_core.specs.Attaching.{IsAttached};
 
@@ -77,6 +77,7 @@ impl Switches {
         requires opened { sw < length self.old }
         requires apart { ¬ IsAttached fiber (switch_at self.old sw) }
         ensures taken { IfOk result (λ taken. taken ≡ (attach fiber daemon (switch_at self.old sw)).taken) }
+        ensures refused { (result ≡ Ok false) ↔ IsTrue (refuses_fibers (switch_at self.old sw)) }
         ensures ok { OnOk result (self.new ≡ with_switch sw (attach fiber daemon (switch_at self.old sw)).switch self.old) }
         ensures err { OnErr result (self.new ≡ self.old) }
     {
