@@ -1,3 +1,4 @@
+pub mod Ordered
 pub mod Parts
 pub mod Putting
 pub mod Placing

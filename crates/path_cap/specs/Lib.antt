@@ -4,3 +4,4 @@ pub mod Faults
 pub mod Laws
 pub mod Leading
 pub mod Nodes
+pub mod Order

@@ -3,6 +3,7 @@ use Rattle.row_model.specs.Directories as model
 use Rattle.path_cap.specs.declared.item.Node.{Node}
 use Rattle.path_cap.specs.declared.item.Node.TheVariants as node
 
+-- what a name stands for
 abbrev pub held_of : Node → model.Held
 held_of (node.File content) = model.File content
 held_of (node.Link target) = model.Link target

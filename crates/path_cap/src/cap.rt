@@ -8,8 +8,8 @@ use thiserror::Error;
 
 /// The capability of a directory: its number. `Cap(0)` is that of the root.
 ///
-/// Whoever has one reaches that directory and what lies below it. A call through a capability whose directory was removed, or was never
-/// made, finds nothing.
+/// Whoever has one reaches that directory and what lies below it. A call through a capability whose directory was removed, or was
+/// never made, finds nothing.
 #[derive(Clone, Copy, Debug, PartialEq, Eq)]
 pub struct Cap(pub u32);
 

@@ -1,5 +1,6 @@
-//! Calls that change a tree through a capability. Each leaves the tree that the definition of its name gives; one that is refused, or has
-//! no memory, leaves the tree as it was. That nothing outside the capability's directory changes is the law `changes_stay_below`.
+//! Calls that change a tree through a capability. Each leaves the tree that the definition of its name gives; one that is refused,
+//! or has no memory, leaves the tree as it was. What lies outside the capability's directory stays the same: the clause `outside` of
+//! each call, and the law `changes_stay_below`.
 
 ghost use Rattle.std.specs.Prelude.{◌≡◌, ◌<◌, ◌^◌, length, Ok, IfErr, OnOk, OnErr};
 ghost use Rattle.row_model.specs.PathCalls as model;
@@ -16,8 +17,8 @@ use std::alloc::Global;
 
 #[tactic(auto, using(crate::proofs::Keeping::unchanged_keeps))]
 impl DirTree {
-    /// Writes a file with this content: a new one, or, unless only a new one is wanted, in place of the one that a path leads to. A last link is
-    /// followed where any file will do, so that the file is written or made where it leads.
+    /// Writes a file with this content: a new one, or, unless only a new one is wanted, in place of the one that a path leads to.
+    /// A last link is followed where any file will do, so that the file is written or made where it leads.
     pub fn save(
         &mut self,
         alloc: Global,

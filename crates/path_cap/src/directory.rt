@@ -1,4 +1,5 @@
-//! A directory: its entries in the order of their names' bytes, and whether it was removed. Clauses see it as the definition's directory.
+//! A directory: its entries in the order of their names' bytes, and whether it was removed. Clauses see it as the definition's
+//! directory. That the names stay in order is the law `names_stay_in_order`.
 
 ghost use Rattle.std.specs.Prelude.{◌≡◌, ◌==◌, length, [], true, false, map, option_map, IfOk, OnOk, OnErr};
 ghost use Rattle.row_model.specs.Directories.{held_by, with_entry, without_entry};

@@ -16,7 +16,9 @@ mod tree;
 mod walk;
 
 pub use cap::{Cap, CapFault};
-pub use laws::{changes_stay_below, leads_stay_below, refused_changes_nothing};
+pub use laws::{
+    changes_stay_below, leads_stay_below, names_stay_in_order, refused_changes_nothing,
+};
 pub use tree::DirTree;
 
 #[cfg(test)]

@@ -45,7 +45,7 @@ impl DirTree {
         }
     }
 
-    /// The names in the directory that a path leads to, in the order of their bytes.
+    /// The names in the directory that a path leads to, in the order of their bytes (`names_stay_in_order`).
     pub fn read_dir(&self, alloc: Global, cap: Cap, path: &[u8]) -> Result<Vec<Vec<u8>>, CapFault>
         ensures ok { IfOk result (λ names. model.read_dir self.now cap.0 path.now ≡ Ok (map (λ name. name.items) names.items)) }
         ensures fault { IfErr result (λ fault. Refuses fault (model.read_dir self.now cap.0 path.now)) }

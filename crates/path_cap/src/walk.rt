@@ -1,5 +1,5 @@
-//! The walk along a path below a capability. It keeps the way down from the capability, so `..` goes back up that way and never above
-//! the capability. The theorem is the clause of [`resolve`]; that its way stays below the capability is the law `leads_stay_below`.
+//! The walk along a path below a capability. It keeps the way down from the capability, so `..` goes back up that way and never
+//! above the capability. The theorem is the clause of [`resolve`]; that its way stays below is the law `leads_stay_below`.
 
 ghost use Rattle.std.specs.Prelude.{◌≡◌, [], ◌||◌, not, slice_get, if◌then◌else◌, IfOk, OnOk};
 ghost use Rattle.std.specs.Option.{option_copied};
