@@ -4,10 +4,12 @@
 //! (`ReadyList`, `Timers`), with that number beside it; the theorems are the clauses of the methods.
 #![tactic(auto)]
 
+mod laws;
 mod ready;
 #[cfg(test)]
 mod tests;
 mod timers;
 
+pub use laws::timers_go_off_in_order;
 pub use ready::Ready;
 pub use timers::Timers;
