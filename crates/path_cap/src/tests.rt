@@ -23,7 +23,7 @@ enum Call {
 }
 
 /// Calls through capabilities, with their paths and answers. What is saved is `x`.
-const ROWS: [(Call, u32, &str, &str); 27] = [
+const ROWS: [(Call, u32, &str, &str); 28] = [
     (Call::Mkdir, 0, "e", "Ok(())"),
     (Call::Mkdir, 0, "e", "Err(Path(AlreadyExists))"),
     (Call::Save, 0, "e", "Err(Path(IsDirectory))"),
@@ -32,6 +32,7 @@ const ROWS: [(Call, u32, &str, &str); 27] = [
     (Call::Load, 0, "./e//../n", "Ok([120])"),
     (Call::Unlink, 0, "n", "Ok(())"),
     (Call::Load, 0, "n", "Err(Path(NotFound))"),
+    (Call::Save, 0, "p/f", "Err(Path(NotFound))"),
     (Call::Save, 0, "e/f", "Ok(())"),
     (Call::Rmdir, 0, "e", "Err(Path(NotEmpty))"),
     (Call::Kind, 0, "l", "Ok(Link)"),
