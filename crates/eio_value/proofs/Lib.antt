@@ -5,3 +5,4 @@ pub mod JoiningLemmas
 mod Places
 pub mod RaisedLaws
 mod Rows
+pub mod Scanning

@@ -10,6 +10,8 @@ pub mod Joining
 pub mod JoiningLaws
 pub mod MembersInside
 pub mod OperandsInside
+pub mod Sending
 pub mod Several
 pub mod Table
 pub mod Values
+pub mod Waking

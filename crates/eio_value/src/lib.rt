@@ -32,6 +32,7 @@ mod raised;
 mod tests;
 mod texts;
 mod value;
+mod wake;
 mod writing;
 
 pub use bytes::Bytes;
@@ -52,6 +53,7 @@ pub use raised::{Outcome, Raised};
 use std::alloc::{AllocError, AllocFailed};
 pub use texts::Texts;
 pub use value::{TextId, Value};
+pub use wake::Wake;
 pub use writing::{quote, show, show_raised};
 
 /// Memory was refused.

@@ -4,7 +4,7 @@ use Rattle.eio_value.specs.declared.message.Message.{Message}
 use Rattle.eio_value.specs.declared.message.Waiter.{Waiter}
 use Rattle.eio_value.specs.declared.raised.Outcome.{Outcome}
 use Rattle.row_model.specs.ResumeWords.{Decision}
-use Rattle.row_model.specs.Row.{Sent, Start, Resumes, Starts}
+use Rattle.eio_value.specs.Sending.{Start, Sent, Resumes, Starts}
 use Rattle.machine_model.specs.PartsOfRuns.{DecidedWait, decided_by, resumed, sent_away, first_of, HasStamp, sent_to, sends, taken, takes, Rises}
 use Rattle.machine_model.specs.Runs.{Letter, Noted, domain_of, stamp_of, message_stamp, away_of, Before, key_of}
 use Rattle.machine_model.specs.Shared.{message_of, receiver_of, mine_of, posted}

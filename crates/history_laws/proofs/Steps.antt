@@ -7,7 +7,8 @@ use Rattle.eio_value.specs.declared.call.Answer.TheVariants as answer
 use Rattle.eio_value.specs.declared.message.Message.{Message}
 use Rattle.eio_value.specs.declared.message.Waiter.{Waiter}
 use Rattle.row_model.specs.ResumeWords.{Decision, Woken, Cancelled}
-use Rattle.row_model.specs.Row.{Row, Sent, Resumes, Starts, Stepped, only_row}
+use Rattle.eio_value.specs.Sending.{Sent, Resumes, Starts}
+use Rattle.row_model.specs.Row.{Row, Stepped, only_row}
 use Rattle.row_model.specs.Strikes.{same_wait}
 use Rattle.trace_out.specs.declared.line.Line.{Line}
 use Rattle.machine_model.specs.Labels.{Label, Inner, Called, Struck, Mocked, Took}

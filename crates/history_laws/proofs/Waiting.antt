@@ -4,7 +4,8 @@ use Rattle.std.specs.Prelude.{find, cond}
 use Rattle.eio_value.specs.declared.call.Answer.TheVariants as answer
 use Rattle.eio_value.specs.declared.message.Waiter.{Waiter}
 use Rattle.row_model.specs.Data.{Data}
-use Rattle.row_model.specs.Row.{Row, Queued, Side, Takers, Adders, Start, Alone, Keeps, Waits, Handed, Does, Ignores, Looks, Stepped, but_first, entered, found, has_other_cell, only_row, otherwise, queue, started, stepped, with_queue}
+use Rattle.eio_value.specs.Sending.{Start}
+use Rattle.row_model.specs.Row.{Row, Queued, Side, Takers, Adders, Alone, Keeps, Waits, Handed, Does, Ignores, Looks, Stepped, but_first, entered, found, has_other_cell, only_row, otherwise, queue, started, stepped, with_queue}
 use Rattle.model_laws.proofs.Alike.{only}
 use Rattle.history_laws.proofs.Coming.{woken_in}
 use Rattle.history_laws.proofs.Rows.{by_test}

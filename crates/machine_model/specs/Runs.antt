@@ -4,7 +4,8 @@
 use Rattle.std.specs.Prelude.{◌≡◌, ℕ, ◌<◌, ◌⊎◌, ◌^◌, ◌==◌, true, false, List, [], ◌∷◌, length, slice_get, Option, Some, None}
 use Rattle.eio_value.specs.declared.message.Message.{Message}
 use Rattle.eio_value.specs.declared.message.Message.TheVariants as message
-use Rattle.row_model.specs.Row.{Sent, Stepped}
+use Rattle.eio_value.specs.Sending.{Sent}
+use Rattle.row_model.specs.Row.{Stepped}
 use Rattle.script_model.specs.Scripts.{Script}
 use Rattle.trace_out.specs.declared.line.Line.{Line}
 use Rattle.machine_model.specs.Domain.{DomainState}

@@ -13,7 +13,8 @@ use Rattle.row_model.specs.Objects.{called}
 use Rattle.row_model.specs.Pools.{pool}
 use Rattle.row_model.specs.Promises.{promise}
 use Rattle.row_model.specs.ResumeWords.{Decision, Woken, Cancelled}
-use Rattle.row_model.specs.Row.{Row, opening, Sent, Resumes, Starts, Stepped}
+use Rattle.eio_value.specs.Sending.{Sent, Resumes, Starts}
+use Rattle.row_model.specs.Row.{Row, opening, Stepped}
 use Rattle.row_model.specs.Semaphores.{semaphore}
 use Rattle.row_model.specs.Streams.{stream}
 use Rattle.row_model.specs.Strikes as strikes

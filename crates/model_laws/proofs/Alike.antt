@@ -6,7 +6,8 @@ use Rattle.eio_value.specs.declared.call.Answer.TheVariants as answer
 use Rattle.eio_value.specs.declared.message.Waiter.{Waiter}
 use Rattle.row_model.specs.Data.{Data}
 use Rattle.row_model.specs.Objects.{does}
-use Rattle.row_model.specs.Row.{Row, Queued, Side, Takers, Adders, Alone, Keeps, Waits, Handed, Does, Ignores, Looks, Resumes, Stepped, but_first, entered, found, has_other_cell, only_row, otherwise, queue, stepped, with_queue}
+use Rattle.eio_value.specs.Sending.{Resumes}
+use Rattle.row_model.specs.Row.{Row, Queued, Side, Takers, Adders, Alone, Keeps, Waits, Handed, Does, Ignores, Looks, Stepped, but_first, entered, found, has_other_cell, only_row, otherwise, queue, stepped, with_queue}
 use Rattle.model_laws.specs.Skips.{TouchesNone, only_stepped, SkipsAlike}
 
 -- those of a list that stay

@@ -10,7 +10,8 @@ use Rattle.eio_value.specs.declared.message.Waiter.{Waiter}
 use Rattle.eio_value.specs.declared.value.Value.{Value}
 use Rattle.row_model.specs.Data.{Data, Stream}
 use Rattle.row_model.specs.Objects.{called}
-use Rattle.row_model.specs.Row.{Queued, Row, Sent, Stepped}
+use Rattle.eio_value.specs.Sending.{Sent}
+use Rattle.row_model.specs.Row.{Queued, Row, Stepped}
 use Rattle.row_model.specs.Streams.{stream}
 use Rattle.row_model.specs.Strikes.{struck}
 

@@ -5,7 +5,8 @@ use Rattle.eio_value.specs.declared.call.Call.{Call}
 use Rattle.eio_value.specs.declared.message.Waiter.{Waiter}
 use Rattle.eio_value.specs.declared.raised.Outcome.{Outcome}
 use Rattle.row_model.specs.Objects.{called}
-use Rattle.row_model.specs.Row.{Row, Stepped, Resumes, only_row}
+use Rattle.eio_value.specs.Sending.{Resumes}
+use Rattle.row_model.specs.Row.{Row, Stepped, only_row}
 
 -- the fiber that the call wakes is one of those that stay, and so is the caller where it waits
 pub record TouchesNone (stays : Waiter → Bool) (who : Waiter) (step : Stepped) : Type 0 where

@@ -14,6 +14,7 @@ use Rattle.eio_value.specs.declared.raised.Outcome.{Outcome}
 use Rattle.eio_value.specs.declared.raised.Outcome.TheVariants as outcome
 use Rattle.eio_value.specs.declared.raised.Raised.{Raised}
 use Rattle.eio_value.specs.declared.raised.Raised.TheVariants as raised
+use Rattle.eio_value.specs.Sending.{Start, Sent, Resumes, Starts}
 use Rattle.eio_value.specs.declared.value.Value.{Value}
 use Rattle.eio_value.specs.declared.value.Value.TheVariants as value
 use Rattle.row_model.specs.Data.{Data}
@@ -33,17 +34,6 @@ pub record Row : Type 0 where
 pub data Side : Type 0 where
   Takers : Side
   Adders : Side
-
--- a job that starts in a domain
-pub record Start : Type 0 where
-  pub domain : ℕ
-  pub job : Job
-  pub number : ℕ
-
--- what a call sends: a fiber goes on with an outcome, or a job starts
-pub data Sent : Type 0 where
-  Resumes : Waiter → Outcome → Sent
-  Starts : Start → Sent
 
 -- what a call does where it looks at nobody or finds nobody: it answers at once, with the data after, its answer and the job that starts;
 -- or it waits, with the data after, its list, its item and the number of its job

@@ -6,7 +6,8 @@ use Rattle.eio_value.specs.declared.message.Job.{Job}
 use Rattle.eio_value.specs.declared.value.Value.TheVariants as value
 use Rattle.row_model.specs.Data.{Submitted, Worker, Running, Work, Executor}
 use Rattle.row_model.specs.Executors.{executor}
-use Rattle.row_model.specs.Row.{Row, Queued, Starts}
+use Rattle.eio_value.specs.Sending.{Starts}
+use Rattle.row_model.specs.Row.{Row, Queued}
 use Rattle.row_rows.proofs.Moves.{Move, waiter, by, off_by, strike, Told, Sends, Won, Lost, fine, waits, is_off, none, fine_and, number, queued, row, run, ran}
 
 -- a job of this weight; its block has the same number

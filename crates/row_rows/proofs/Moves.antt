@@ -11,7 +11,8 @@ use Rattle.eio_value.specs.declared.value.Value.{Value}
 use Rattle.eio_value.specs.declared.value.Value.TheVariants as value
 use Rattle.row_model.specs.Data.{Data}
 use Rattle.row_model.specs.Objects.{called}
-use Rattle.row_model.specs.Row.{Row, Queued, Sent, Resumes, Stepped, done, int, raise}
+use Rattle.eio_value.specs.Sending.{Sent, Resumes}
+use Rattle.row_model.specs.Row.{Row, Queued, Stepped, done, int, raise}
 use Rattle.row_model.specs.Strikes.{waits_in, struck}
 
 -- a wait of fiber n of the first domain, whose cell has its number

@@ -14,7 +14,8 @@ use Rattle.eio_value.specs.declared.plain.Member.{Member}
 use Rattle.eio_value.specs.declared.plain.Plain.TheVariants.{Poisoned}
 use Rattle.row_model.specs.Data.{Mutex}
 use Rattle.row_model.specs.declared.hold.Hold.TheVariants as hold
-use Rattle.row_model.specs.Row.{Stepped, Sent, Resumes, Starts}
+use Rattle.eio_value.specs.Sending.{Sent, Resumes, Starts}
+use Rattle.row_model.specs.Row.{Stepped}
 use Rattle.script_model.specs.Scripts.{Script}
 use Rattle.step_model.specs.Asks.{Ask}
 use Rattle.machine_model.specs.Asking as asking

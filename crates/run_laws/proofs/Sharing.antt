@@ -17,7 +17,8 @@ use Rattle.eio_value.specs.declared.value.Value.{Value}
 use Rattle.row_model.specs.declared.hold.Hold.TheVariants.{Free, Held, Poisoned}
 use Rattle.row_model.specs.Data.{Data, Stream, Promise, Semaphore, Mutex, Pool, Executor}
 use Rattle.row_model.specs.Objects.{called}
-use Rattle.row_model.specs.Row.{Row, Queued, Sent, Resumes, Starts, Stepped}
+use Rattle.eio_value.specs.Sending.{Sent, Resumes, Starts}
+use Rattle.row_model.specs.Row.{Row, Queued, Stepped}
 use Rattle.row_model.specs.Strikes as strikes
 use Rattle.script_model.specs.Syntax as syntax
 use Rattle.script_model.specs.Syntax.{Block, ObjectCall, ObjectCallWith}

@@ -22,7 +22,8 @@ use Rattle.row_model.specs.Mutexes.{mutex_does}
 use Rattle.row_model.specs.Objects.{does, called}
 use Rattle.row_model.specs.Pools.{pool_does, use_last, is_out}
 use Rattle.row_model.specs.Promises.{promise_does}
-use Rattle.row_model.specs.Row.{Row, Queued, Start, Sent, Resumes, Starts, Side, Takers, Adders, Alone, Keeps, Waits, Handed, Does, Ignores, Looks, Stepped, anybody, quiet, done, int, otherwise, found, queue, stepped, started}
+use Rattle.eio_value.specs.Sending.{Start, Sent, Resumes, Starts}
+use Rattle.row_model.specs.Row.{Row, Queued, Side, Takers, Adders, Alone, Keeps, Waits, Handed, Does, Ignores, Looks, Stepped, anybody, quiet, done, int, otherwise, found, queue, stepped, started}
 use Rattle.row_model.specs.Semaphores.{semaphore_does, greatest_count}
 use Rattle.row_model.specs.Streams.{stream_does, take_does}
 use Rattle.row_model.specs.Strikes as strikes

@@ -1,6 +1,7 @@
 -- A call that answers `Off` leaves its row; so the list of rows, in which that row is put in its own place, is the same.
 use Rattle.std.proofs.Common.{◌≡◌, ℕ, zero, suc, List, [], ◌∷◌, slice_set, Option, refl, sym, ap, ◌∙◌}
-use Rattle.row_model.specs.Row.{Row, Sent, Stepped}
+use Rattle.eio_value.specs.Sending.{Sent}
+use Rattle.row_model.specs.Row.{Row, Stepped}
 use Rattle.machine_model.specs.Runs.{away_of}
 use Rattle.machine_model.specs.Shared.{SharedState, row_at, stepped, mine_of, posted, with_woken}
 use Rattle.model_laws.specs.Offs.{HasDoneNothing}
