@@ -6,6 +6,7 @@ pub mod EntriesInside
 pub mod Escapes
 pub mod Exceptions
 pub mod FilledPlaces
+pub mod Fitting
 pub mod Joining
 pub mod JoiningLaws
 pub mod MembersInside
@@ -13,5 +14,7 @@ pub mod OperandsInside
 pub mod Sending
 pub mod Several
 pub mod Table
+pub mod Things
 pub mod Values
+pub mod Waits
 pub mod Waking

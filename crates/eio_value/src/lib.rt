@@ -5,13 +5,16 @@
 //! another (`Message`). Texts stand in a table and are named by their numbers (`TextId`), so nearly
 //! all of these types are `Copy` and hold no memory.
 //!
+//! The traits [`Wake`], [`Objects`] and [`Extras`] stand between a domain, the objects that it calls, and what wakes their waiters.
+//!
 //! What two exceptions become together is `combine`. `Texts` is a table of texts, and `show`, `quote` and
 //! `show_raised` write values and exceptions by it.
 //!
 //! The definitions that speak of them stand in specs/: `Values` (the text of a value), `Exceptions`
 //! (the text of an exception), `Escapes` (how the bytes of a text are written), `Table` (the table of
 //! texts), `Several` (exceptions that were raised together), `Joining` (what two exceptions become
-//! together), `Directory` (what stands in a scripted directory). They are run on worked rows in
+//! together), `Directory` (what stands in a scripted directory), `Sending` and `Waking` (what a call on an object sends, and whom it
+//! finds alive), `Fitting`, `Waits` and `Things` (what goes between a domain and its objects). They are run on worked rows in
 //! proofs/Rows. `JoiningLaws` states what is proved of `combine` for all exceptions (src/laws.rt).
 #![tactic(auto)]
 
@@ -19,12 +22,14 @@ mod bytes;
 mod call;
 mod entry;
 mod escapes;
+mod extras;
 mod flow_step;
 mod joining;
 mod laws;
 mod members;
 mod message;
 mod mock_call;
+mod objects;
 mod operands;
 mod plain;
 mod raised;
@@ -38,6 +43,7 @@ mod writing;
 pub use bytes::Bytes;
 pub use call::{Answer, Answered, Call, Struck, Woken};
 pub use entry::{Entries, Entry};
+pub use extras::Extras;
 pub use flow_step::FlowStep;
 pub use joining::{combine, reason};
 pub use laws::{
@@ -47,6 +53,7 @@ pub use laws::{
 pub use members::Members;
 pub use message::{Job, Message, Waiter};
 pub use mock_call::{Extra, MockCall, Said};
+pub use objects::Objects;
 pub use operands::Operands;
 pub use plain::{Member, Misuse, PathFault, Plain};
 pub use raised::{Outcome, Raised};
