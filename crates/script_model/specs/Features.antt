@@ -12,15 +12,16 @@ Built = List Feature
 abbrev pub feature_number : Feature → ℕ
 feature_number feature.FirstForms = 0
 feature_number feature.Reading = 1
-feature_number feature.Exceptions = 2
-feature_number feature.Switches = 3
-feature_number feature.Groups = 4
-feature_number feature.StreamsAndPromises = 5
-feature_number feature.Resources = 6
-feature_number feature.Flows = 7
-feature_number feature.Paths = 8
-feature_number feature.Domains = 9
-feature_number feature.Executors = 10
+feature_number feature.Steps = 2
+feature_number feature.Exceptions = 3
+feature_number feature.Switches = 4
+feature_number feature.Groups = 5
+feature_number feature.StreamsAndPromises = 6
+feature_number feature.Resources = 7
+feature_number feature.Flows = 8
+feature_number feature.Paths = 9
+feature_number feature.Domains = 10
+feature_number feature.Executors = 11
 
 -- whether a feature is among those that are built
 abbrev pub is_built : Built → Feature → Bool
@@ -31,6 +32,7 @@ abbrev pub all_built : Built
 all_built =
     feature.FirstForms
     ∷ feature.Reading
+    ∷ feature.Steps
     ∷ feature.Exceptions
     ∷ feature.Switches
     ∷ feature.Groups

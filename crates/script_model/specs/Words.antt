@@ -48,7 +48,7 @@ asks_option feature command option most words = elim (option_value option words)
 -- the words behind `mock`, `domains`, `check` or `print`, and `load`
 abbrev pub mock_words : List (List ℕ) → Option Asked
 mock_words [] = asks feature.FirstForms (command.Mock most_steps)
-mock_words (word ∷ words) = asks_option feature.Reading command.Mock (codes "--steps") most_steps (word ∷ words)
+mock_words (word ∷ words) = asks_option feature.Steps command.Mock (codes "--steps") most_steps (word ∷ words)
 
 abbrev pub domains_words : List (List ℕ) → Option Asked
 domains_words [] = asks feature.Domains (command.Domains most_lines)

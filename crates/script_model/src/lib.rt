@@ -38,8 +38,10 @@ pub enum Command {
 pub enum Feature {
     /// `main`, `switch`, `fork`, `trace` of one or more texts, `yield`; the command `mock` without options.
     FirstForms,
-    /// The commands `check` and `print`; the options of `mock`.
+    /// The commands `check` and `print`.
     Reading,
+    /// The option of `mock`.
+    Steps,
     /// Variables, expressions, exceptions, loops and cancellation.
     Exceptions,
     /// The rest of the switches: failures, daemons, release handlers.

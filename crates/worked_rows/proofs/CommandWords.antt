@@ -169,13 +169,13 @@ mock_among_the_first : meaning (feature.FirstForms ∷ []) (codes "mock" ∷ [])
 unfolding meaning
 mock_among_the_first = refl
 
-steps_before_the_reading : meaning (feature.FirstForms ∷ []) (codes "mock" ∷ codes "--steps" ∷ codes "10" ∷ []) ≡ None
+steps_before_their_time : meaning (feature.FirstForms ∷ feature.Reading ∷ []) (codes "mock" ∷ codes "--steps" ∷ codes "10" ∷ []) ≡ None
 unfolding meaning
-steps_before_the_reading = refl
+steps_before_their_time = refl
 
-steps_after_the_reading : meaning (feature.FirstForms ∷ feature.Reading ∷ []) (codes "mock" ∷ codes "--steps" ∷ codes "10" ∷ []) ≡ Some (command.Mock 10)
+steps_in_their_time : meaning (feature.FirstForms ∷ feature.Steps ∷ []) (codes "mock" ∷ codes "--steps" ∷ codes "10" ∷ []) ≡ Some (command.Mock 10)
 unfolding meaning
-steps_after_the_reading = refl
+steps_in_their_time = refl
 
 check_before_the_reading : meaning (feature.FirstForms ∷ []) (codes "check" ∷ []) ≡ None
 unfolding meaning
