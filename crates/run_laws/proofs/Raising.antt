@@ -1,5 +1,5 @@
 -- A domain's own moves: each raises at most one exception, with the counter's number, which then rises.
-use Rattle.std.proofs.Common.{◌≡◌, ℕ, ◌+◌, ◌-◌, ◌&&◌, inl, inr, Bool, true, false, List, [], ◌∷◌, ◌++◌, length, Option, Some, None, refl, sym, ap, subst, arith, zero, suc}
+use Rattle.std.proofs.Common.{◌≡◌, ℕ, ◌+◌, ◌-◌, ◌&&◌, inl, inr, Bool, true, false, List, [], ◌∷◌, ◌++◌, length, Option, Some, None, refl, sym, ap, subst, zero, suc}
 use Rattle.std.specs.Prelude.{ℤ, pos, ◌+ℤ◌, int_lt, filter, not, unwrap_or}
 use Rattle.std.proofs.lemmas.List.Elements.{All-append, Contains-push}
 use Rattle.eio_value.specs.declared.plain.Member.{Member}
