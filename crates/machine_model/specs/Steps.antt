@@ -37,6 +37,7 @@ member what l = record { serial = l.serial; what = what }
 abbrev pub counted : DomainState → DomainState
 counted l = record l { serial = l.serial + 1 }
 
+-- with these raises before its own
 abbrev pub with_raises : List Member → Step → Step
 with_raises new step = record step { raises = new ++ step.raises }
 

@@ -1,5 +1,5 @@
--- What silent statements raise: each time the next number, and one exception at a time is under way.
--- So the call that they come to holds what came to them, or one exception with a number from the counter before to below the counter after.
+-- What silent statements raise: each time the next number, which is listed, and one exception at a time is under way.
+-- So the call that they come to holds what came to them, or one of the listed exceptions, whose numbers go from the counter before up to the counter after.
 use Rattle.std.proofs.Common.{◌≡◌, ℕ, zero, suc, ◌+◌, ◌≤◌, ◌<◌, ◌⊎◌, inr, Bool, true, false, List, [], ◌∷◌, ◌++◌, length, Option, Some, None, refl, sym, ap, subst, arith}
 use Rattle.std.specs.Prelude.{ℤ, pos, negsuc}
 use Rattle.std.specs.List.{Contains}
@@ -38,6 +38,8 @@ BornIn from raises to born = AreNumbered from raises to × IsListed raises born
 abbrev pub With : (Member → Type 0) → Option Member → Member → Type 0
 With P None x = P x
 With P (Some new) x = P x ⊎ (x ≡ new)
+
+-- ## Numbers
 
 pub numbered_rises : (from : ℕ) (raises : List Member) (to : ℕ) → AreNumbered from raises to → from ≤ to
 numbered_rises from [] to same = omega (arith, same)
