@@ -1,1 +1,2 @@
 mod OutsideRows
+mod RaisesOfMoves

@@ -3,23 +3,21 @@ use Rattle.std.specs.Prelude.{ℕ, Bool, true, false, ◌∷◌}
 use Rattle.std.specs.Option.{unwrap_or}
 use Rattle.eio_value.specs.declared.call.Answer.{Answer}
 use Rattle.eio_value.specs.declared.call.Answer.TheVariants as answer
-use Rattle.eio_value.specs.declared.plain.Plain.TheVariants.{Exit}
+use Rattle.eio_value.specs.declared.message.Waiter.{Waiter}
+use Rattle.eio_value.specs.declared.plain.Plain.TheVariants.{Exit, Poisoned}
 use Rattle.eio_value.specs.declared.raised.Outcome.TheVariants as outcome
 use Rattle.eio_value.specs.declared.raised.Raised.TheVariants.{Cancelled}
 use Rattle.row_model.specs.Timers.{remove}
 use Rattle.trace_out.specs.declared.line.Did.TheVariants as did
 use Rattle.trace_out.specs.declared.line.Said2.TheVariants as said
 use Rattle.machine_model.specs.Domain.{GoesOn, Asleep, ForCancel, Standing, Parked, Duty, Strike, Wake, Start, DomainState, fiber_at, off_for, to_back}
-use Rattle.machine_model.specs.Steps.{Step, told, member, counted, halts}
+use Rattle.machine_model.specs.Steps.{Step, told, new_raise, halts}
 
 -- ## Strikes
 
 -- a fiber that still waits goes to the back with a new `Cancelled`, for the reason by which its context is off
-abbrev pub cancelled : (fiber : ℕ) → DomainState → DomainState
-cancelled g l = to_back (GoesOn (outcome.Err (Cancelled (member (unwrap_or (off_for l g) Exit) l)))) g (counted l)
-
 abbrev pub strike_told : Duty → (fiber : ℕ) → (won : Bool) → DomainState → Step
-strike_told duty g true l = told duty.maker (did.Strike l.number g) said.Won (cancelled g l)
+strike_told duty g true l = new_raise (unwrap_or (off_for l g) Exit) l (λ x m. told duty.maker (did.Strike l.number g) said.Won (to_back (GoesOn (outcome.Err (Cancelled x))) g m))
 strike_told duty g false l = told duty.maker (did.Strike l.number g) said.Lost l
 
 -- a strike that the domain makes by itself: a fiber that waits for the clock, or in `await-cancel`, waits still; one that is ready was woken
@@ -49,13 +47,13 @@ duty_struck duty won l = elim duty.owed [
 abbrev pub stays : Duty → DomainState → DomainState
 stays duty l = record l { duties = duty ∷ l.duties }
 
--- each fiber that waits for a poisoned mutex has a raise of its own
-abbrev pub counted_if : Bool → DomainState → DomainState
-counted_if true l = counted l
-counted_if false l = l
+abbrev pub woke_told : Duty → (object : ℕ) → Waiter → DomainState → Step
+woke_told duty object who l = told duty.maker (did.Wake object) (said.Fiber who.domain who.fiber) (stays duty l)
 
+-- each fiber that waits for a poisoned mutex has a raise of its own
 abbrev pub wake_told : Duty → (object : ℕ) → (poisoned : Bool) → Answer → DomainState → Step
-wake_told duty object poisoned (answer.Woke who) l = told duty.maker (did.Wake object) (said.Fiber who.domain who.fiber) (stays duty (counted_if poisoned l))
+wake_told duty object true (answer.Woke who) l = new_raise Poisoned l (λ x m. woke_told duty object who m)
+wake_told duty object false (answer.Woke who) l = woke_told duty object who l
 wake_told duty object poisoned other l = told duty.maker (did.Wake object) said.Nothing l
 
 abbrev pub start_told : Duty → (executor : ℕ) → Answer → DomainState → Step

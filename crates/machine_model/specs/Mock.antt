@@ -1,5 +1,6 @@
 -- A run on one mocked domain. All that is outside lies beside the domain, so that nothing in a move is free.
 use Rattle.std.specs.Prelude.{ℕ, zero, suc, ◌+◌, Bool, true, false, ◌&&◌, ◌||◌, not, List, [], ◌∷◌, ◌*◌, length, map, Option, Some, None}
+use Rattle.eio_value.specs.declared.plain.Member.{Member}
 use Rattle.row_model.specs.Contexts.{root}
 use Rattle.row_model.specs.Row.{Stepped}
 use Rattle.script_model.specs.Opening.{opening_texts}
@@ -14,7 +15,7 @@ use Rattle.machine_model.specs.Outside.{World, opening_world, OutsideStep, outsi
 use Rattle.machine_model.specs.Preparing.{Prepared, prepared}
 use Rattle.machine_model.specs.Asking.{asks_by}
 use Rattle.machine_model.specs.Steps.{Step}
-use Rattle.machine_model.specs.Moves.{stepped_by, counted_as, line_by}
+use Rattle.machine_model.specs.Moves.{stepped_by, counted_as, line_by, raises_by}
 
 -- the domain, the shared objects, and the mocked outside
 pub record Mock : Type 0 where
@@ -62,22 +63,24 @@ comes m stamp (Calls asked) =
 comes m stamp (Strikes who) = (let won = strike_wins m.shared who in Some (record { label = Struck who won; shared = after_strike m.shared who won; world = m.world }))
 comes m stamp (Mocks asked) = (let it : OutsideStep = outside m.world asked.texts asked.serial asked.call in Some (record { label = Mocked asked it.answer it.texts; shared = m.shared; world = it.world }))
 
--- a move: its line, and what is there then
+-- a move: its line, what is there then, and the raises that it made
 pub record Moved : Type 0 where
   pub line : Line
   pub next : Mock
+  pub raises : List Member
 
-abbrev pub moved_by : Mock → (stamp : ℕ) → Came → Step → Moved
-moved_by m stamp came step = record {
+abbrev pub moved_by : Mock → (stamp : ℕ) → (silent : List Member) → Came → Step → Moved
+moved_by m stamp silent came step = record {
   line = line_by m.local.number stamp step;
   next = record { local = counted_as stamp step; shared = came.shared; world = came.world };
+  raises = raises_by silent came.label step;
 }
 
 -- the stamps of a mocked run are 1, 2, 3 and so on
 abbrev pub move_by : Script → Mock → Prepared → Option Moved
 move_by script m it = (let stamp = m.local.stamp + 1 in elim (comes m stamp (asks_by it)) [
   | None ↦ None
-  | Some came ↦ Some (moved_by m stamp came (stepped_by script it came.label m.local))
+  | Some came ↦ Some (moved_by m stamp it.raises came (stepped_by script it came.label m.local))
 ])
 
 -- the next move, if there is one

@@ -16,7 +16,7 @@ use Rattle.step_model.specs.Evaluation.{number_in}
 use Rattle.trace_out.specs.declared.line.Did.TheVariants as did
 use Rattle.trace_out.specs.declared.line.Said2.TheVariants as said
 use Rattle.machine_model.specs.Domain.{Role, OfWriter, GoesOn, CallsAgain, ForOthers, Resting, Standing, Parked, Fiber, DomainState, made, stands, to_head, to_back}
-use Rattle.machine_model.specs.Steps.{Step, told, answers, raises_again, enters, counted, in_new}
+use Rattle.machine_model.specs.Steps.{Step, told, answers, raises_given, enters, in_new}
 use Rattle.machine_model.specs.ContextMoves.{protected_of, before_block}
 use Rattle.machine_model.specs.SwitchMoves.{woken_if}
 use Rattle.machine_model.specs.EndMoves.{ends}
@@ -99,4 +99,4 @@ mock_answered call (extra.Done given it) g l = done_by call given it g l
 mock_answered call (extra.More it) g l = told g (did.Mock it) (said.Done value.Unit) (to_head (CallsAgain call) g l)
 mock_answered call extra.Back g l = told g (did.Mock Nothing) said.Back (to_back (CallsAgain call) g l)
 mock_answered call extra.Waits g l = waits_by call g l
-mock_answered call (extra.Raised raised it) g l = raises_again (did.Mock it) raised g (counted l)
+mock_answered call (extra.Raised raised it) g l = raises_given (did.Mock it) raised g l

@@ -1,9 +1,10 @@
 -- How a domain moves: what it asks from outside, and how it goes on by what came. Both are total functions of the domain, so that all that is free in a move is what
 -- comes from outside, and when.
-use Rattle.std.specs.Prelude.{ℕ, ◌+◌, Bool, List, Option}
+use Rattle.std.specs.Prelude.{ℕ, ◌+◌, ◌++◌, Bool, List, Option}
 use Rattle.eio_value.specs.declared.call.Answer.{Answer}
 use Rattle.eio_value.specs.declared.message.Message.{Message}
 use Rattle.eio_value.specs.declared.mock_call.Extra.{Extra}
+use Rattle.eio_value.specs.declared.plain.Member.{Member}
 use Rattle.eio_value.specs.declared.value.Value.TheVariants as value
 use Rattle.script_model.specs.Scripts.{Script}
 use Rattle.step_model.specs.Asks as ask
@@ -113,6 +114,11 @@ stepped_by script it (Struck who won) l = struck_move it won
 stepped_by script it (Mocked call answer texts) l = mocked_move it answer texts
 stepped_by script it (Took message) l = takes script message l
 
+-- the raises of a move, in order: those of the silent statements that were run for it, and then its own. A message is taken before any are run
+abbrev pub raises_by : (silent : List Member) → Label → Step → List Member
+raises_by silent (Took message) step = step.raises
+raises_by silent label step = silent ++ step.raises
+
 -- the move has this stamp, and is one line more
 abbrev pub counted_as : (stamp : ℕ) → Step → DomainState
 counted_as stamp step = (let l : DomainState = step.state in record l { stamp = stamp; lines = l.lines + 1 })
@@ -127,3 +133,7 @@ after script l stamp label = counted_as stamp (stepped_by script (prepared l) la
 -- the line of that move
 unfoldable pub line_of : Script → DomainState → (stamp : ℕ) → Label → Line
 line_of script l stamp label = line_by l.number stamp (stepped_by script (prepared l) label l)
+
+-- and its raises: also those that are caught before it ends, each with its number
+unfoldable pub raises_of : Script → DomainState → Label → List Member
+raises_of script l label = raises_by (prepared l).raises label (stepped_by script (prepared l) label l)

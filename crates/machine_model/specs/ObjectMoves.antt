@@ -4,6 +4,7 @@ use Rattle.eio_value.specs.declared.call.Answer.{Answer}
 use Rattle.eio_value.specs.declared.call.Answer.TheVariants as answer
 use Rattle.eio_value.specs.declared.raised.Outcome.{Outcome}
 use Rattle.eio_value.specs.declared.raised.Outcome.TheVariants as outcome
+use Rattle.eio_value.specs.declared.raised.Raised.{Raised}
 use Rattle.eio_value.specs.declared.value.Value.{Value}
 use Rattle.eio_value.specs.declared.value.Value.TheVariants as value
 use Rattle.script_model.specs.Syntax as syntax
@@ -16,7 +17,7 @@ use Rattle.trace_out.specs.declared.line.Said2.{Said2}
 use Rattle.trace_out.specs.declared.line.Said2.TheVariants as said
 use Rattle.machine_model.specs.Domain.{GoesOn, OnObject, Role, OfJob, Owed, Wake, Start, DomainState, fiber_at, to_head}
 use Rattle.machine_model.specs.Shared.{Asked}
-use Rattle.machine_model.specs.Steps.{Step, told, does, raises_again, waits, goes_off, halts, counted}
+use Rattle.machine_model.specs.Steps.{Step, told, does, raises_again, raises_given, waits, goes_off, halts}
 use Rattle.machine_model.specs.EndMoves.{ends}
 
 -- ## What the line tells
@@ -87,9 +88,9 @@ answered_with (ask.End result) it reply given g l = told g it reply (ends result
 answered_with call it reply given g l = told g it reply (to_head (GoesOn (goes_on_with (passing call) given)) g l)
 
 -- only `await` can raise what was raised before
-abbrev pub counted_for : Ask → DomainState → DomainState
-counted_for (ask.OnObject syntax.Await object) l = l
-counted_for call l = counted l
+abbrev pub raised_for : Ask → Did → Raised → (fiber : ℕ) → DomainState → Step
+raised_for (ask.OnObject syntax.Await object) it raised g l = raises_again it raised g l
+raised_for call it raised g l = raises_given it raised g l
 
 -- where nothing was to be done, the fiber goes on as after `()`; a job for which there is no room in the queue meets the limit
 abbrev pub nothing_done : Ask → Did → (fiber : ℕ) → DomainState → Step
@@ -107,7 +108,7 @@ answered_by call role it asked (answer.Done given) g l = answered_with call it (
 answered_by call role it asked answer.Waits g l = waits it (OnObject asked.who) g (owing_wait call g l)
 answered_by call role it asked answer.Off g l = goes_off it g l
 answered_by call role it asked answer.Nothing g l = nothing_done call it g l
-answered_by call role it asked (answer.Raised raised) g l = raises_again it raised g (counted_for call l)
+answered_by call role it asked (answer.Raised raised) g l = raised_for call it raised g l
 answered_by call role it asked (answer.Woke who) g l = does it g l
 answered_by call role it asked (answer.Started domain number) g l = does it g l
 

@@ -1,7 +1,8 @@
 -- How a move begins: what the domain does next. That is its first obligation; else the next call of the head of its ready list, up to which that fiber runs its
 -- silent statements; else, where a timer stands, a jump of the clock.
-use Rattle.std.specs.Prelude.{ℕ, [], ◌∷◌, Option, Some, None}
+use Rattle.std.specs.Prelude.{ℕ, List, [], ◌∷◌, Option, Some, None}
 use Rattle.std.specs.Option.{unwrap_or}
+use Rattle.eio_value.specs.declared.plain.Member.{Member}
 use Rattle.eio_value.specs.declared.plain.Plain.{Plain}
 use Rattle.eio_value.specs.declared.plain.Plain.TheVariants.{Exit}
 use Rattle.eio_value.specs.declared.raised.Outcome.TheVariants as outcome
@@ -10,7 +11,7 @@ use Rattle.eio_value.specs.declared.value.Value.TheVariants as value
 use Rattle.step_model.specs.Asks.{Ask}
 use Rattle.step_model.specs.Replies.{passed}
 use Rattle.step_model.specs.Settling.{Settled, thrown}
-use Rattle.step_model.specs.Work.{Carry, member, counted}
+use Rattle.step_model.specs.Work.{Carry, new_raise}
 use Rattle.machine_model.specs.Domain.{Role, OfWriter, Next, GoesOn, LooksUp, FindsOff, CallsAgain, Standing, Ready, Parked, Ended, Fiber, Duty, DomainState, fiber_at, with_fiber, off_for}
 
 -- what the domain does next: nothing; what it owes; a call of a fiber; a move of a writer's copier; or a jump of the clock
@@ -21,16 +22,21 @@ pub data Doing : Type 0 where
   Carries : (fiber writer : ℕ) → Doing
   Ticks : Doing
 
--- and the domain then: the obligation or the fiber is out of its list, and the fiber's silent statements are done
+-- and the domain then: the obligation or the fiber is out of its list, and the fiber's silent statements are done; with the raises that these made, in order
 pub record Prepared : Type 0 where
   pub doing : Doing
   pub state : DomainState
+  pub raises : List Member
+
+-- where no silent statements are run
+abbrev pub at_once : Doing → DomainState → Prepared
+at_once doing l = record { doing = doing; state = l; raises = [] }
 
 -- ## The call of a fiber
 
 -- a cancellation that a fiber finds by itself: a new raise for this reason
 abbrev pub found_off : Plain → Fiber → Carry → Settled
-found_off why fiber c = thrown fiber.work (Cancelled (member why c)) (counted c)
+found_off why fiber c = new_raise why c (λ x d. thrown fiber.work (Cancelled x) d)
 
 -- the fiber's next call, by how it goes on and by the reason for which its context is off
 abbrev pub next_call : Next → (off : Option Plain) → Fiber → Carry → Settled
@@ -44,14 +50,14 @@ next_call (CallsAgain call) off fiber c = record { call = call; behind = fiber.w
 abbrev pub called_by : ℕ → Fiber → Settled → DomainState → Prepared
 called_by g fiber settled l =
     let t : DomainState = with_fiber g (record fiber { work = settled.behind; variables = settled.carry.variables }) l in
-    record { doing = Calls g settled.call; state = record t { texts = settled.carry.texts; serial = settled.carry.serial } }
+    record { doing = Calls g settled.call; state = record t { texts = settled.carry.texts; serial = settled.carry.serial }; raises = settled.carry.raises }
 
 abbrev pub carry_of : Fiber → DomainState → Carry
-carry_of fiber l = record { variables = fiber.variables; texts = l.texts; serial = l.serial }
+carry_of fiber l = record { variables = fiber.variables; texts = l.texts; serial = l.serial; raises = [] }
 
 -- a copier has no statements
 abbrev pub moves_of : Role → ℕ → Fiber → Next → DomainState → Prepared
-moves_of (OfWriter writer) g fiber next l = record { doing = Carries g writer; state = l }
+moves_of (OfWriter writer) g fiber next l = at_once (Carries g writer) l
 moves_of role g fiber next l = called_by g fiber (next_call next (off_for l g) fiber (carry_of fiber l)) l
 
 -- only fibers that are ready stand in the ready list, so that the other cases never come
@@ -66,11 +72,11 @@ moves g fiber l = moves_of fiber.role g fiber (next_of fiber.standing) l
 -- ## The move
 
 abbrev pub prepared_timers : DomainState → Prepared
-prepared_timers l = elim l.timers.standing [ [] ↦ record { doing = Rests; state = l } | timer ∷ others ↦ record { doing = Ticks; state = l } ]
+prepared_timers l = elim l.timers.standing [ [] ↦ at_once Rests l | timer ∷ others ↦ at_once Ticks l ]
 
 abbrev pub prepared_ready : DomainState → Prepared
 prepared_ready l = elim l.ready [ [] ↦ prepared_timers l | g ∷ others ↦ moves g (fiber_at l.fibers g) (record l { ready = others }) ]
 
 -- what the domain does next, a message aside
 unfoldable pub prepared : DomainState → Prepared
-prepared l = elim l.duties [ [] ↦ prepared_ready l | duty ∷ others ↦ record { doing = Owes duty; state = record l { duties = others } } ]
+prepared l = elim l.duties [ [] ↦ prepared_ready l | duty ∷ others ↦ at_once (Owes duty) (record l { duties = others }) ]

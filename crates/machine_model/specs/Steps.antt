@@ -9,6 +9,7 @@ use Rattle.eio_value.specs.declared.raised.Raised.{Raised}
 use Rattle.eio_value.specs.declared.raised.Raised.TheVariants.{One, Cancelled}
 use Rattle.eio_value.specs.declared.value.Value.{Value}
 use Rattle.eio_value.specs.declared.value.Value.TheVariants as value
+use Rattle.eio_value.specs.Joining.{members_of}
 use Rattle.row_model.specs.Contexts.{Waiting, Made, cancel, to_be_struck}
 use Rattle.step_model.specs.Replies.{Position}
 use Rattle.trace_out.specs.declared.line.Did.{Did}
@@ -17,24 +18,32 @@ use Rattle.trace_out.specs.declared.line.Said2.{Said2}
 use Rattle.trace_out.specs.declared.line.Said2.TheVariants as said
 use Rattle.machine_model.specs.Domain.{GoesOn, LooksUp, FindsOff, Wait, ForOthers, Resting, Ready, Parked, Ended, Fiber, Duty, Strike, DomainState, stands, to_head, to_back, placed, off_for}
 
--- the domain, and of its line the fiber, the call and the reply
+-- the domain, and of its line the fiber, the call and the reply; and the raises that were made, in order
 pub record Step : Type 0 where
   pub state : DomainState
   pub fiber : ℕ
   pub did : Did
   pub reply : Said2
+  pub raises : List Member
 
 abbrev pub told : (fiber : ℕ) → Did → Said2 → DomainState → Step
-told g it reply l = record { state = l; fiber = g; did = it; reply = reply }
+told g it reply l = record { state = l; fiber = g; did = it; reply = reply; raises = [] }
 
 -- ## Raises
 
--- a new raise takes the next number of the domain's series
 abbrev pub member : Plain → DomainState → Member
 member what l = record { serial = l.serial; what = what }
 
 abbrev pub counted : DomainState → DomainState
 counted l = record l { serial = l.serial + 1 }
+
+-- with these raises before its own
+abbrev pub with_raises : List Member → Step → Step
+with_raises new step = record step { raises = new ++ step.raises }
+
+-- a new raise of this exception: it takes the next number of the domain's series, and is listed
+abbrev pub new_raise : Plain → DomainState → (Member → DomainState → Step) → Step
+new_raise what l then = with_raises (member what l ∷ []) (then (member what l) (counted l))
 
 -- ## Answers
 
@@ -60,10 +69,14 @@ raises_again it raised g l = answers it (outcome.Err raised) g l
 
 -- the fiber raises this anew
 abbrev pub raises : Did → Plain → (fiber : ℕ) → DomainState → Step
-raises it what g l = raises_again it (One (member what l)) g (counted l)
+raises it what g l = new_raise what l (λ x m. raises_again it (One x) g m)
 
 abbrev pub raises_cancelled : Did → (reason : Plain) → (fiber : ℕ) → DomainState → Step
-raises_cancelled it why g l = raises_again it (Cancelled (member why l)) g (counted l)
+raises_cancelled it why g l = new_raise why l (λ x m. raises_again it (Cancelled x) g m)
+
+-- the fiber raises what its call raised outside, by the number that the call was given
+abbrev pub raises_given : Did → Raised → (fiber : ℕ) → DomainState → Step
+raises_given it raised g l = with_raises (members_of raised) (raises_again it raised g (counted l))
 
 -- the fiber goes to the back, and on moving again looks whether it was cancelled
 abbrev pub yields : Did → (fiber : ℕ) → DomainState → Step

@@ -25,7 +25,7 @@ use Rattle.trace_out.specs.declared.line.Did.{Did}
 use Rattle.trace_out.specs.declared.line.Did.TheVariants as did
 use Rattle.trace_out.specs.declared.line.Said2.TheVariants as said
 use Rattle.machine_model.specs.Domain.{GoesOn, CallsAgain, OnObject, Asleep, ForCancel, ForOthers, Resting, Ready, Parked, Ended, OfSwitch, Fiber, DomainState, fiber_at, made, to_head, to_back, is_full_by}
-use Rattle.machine_model.specs.Steps.{Step, told, member, counted, does, raises, answers, waits, halts, in_new, unless_off, cancels}
+use Rattle.machine_model.specs.Steps.{Step, told, new_raise, does, raises, answers, waits, halts, in_new, unless_off, cancels}
 use Rattle.machine_model.specs.ContextMoves.{sub_of, protected_of, before_block, enters_context, leaves}
 
 abbrev pub with_switch_at : (switch : ℕ) → Switch → DomainState → DomainState
@@ -84,7 +84,7 @@ fails maker n what l = elim (switches.fail what (switch_at l.switches n)) [
 abbrev pub fail : (switch : ℕ) → TextId → (fiber : ℕ) → DomainState → Step
 fail n text g l = elim (switch_at l.switches n).finished [
   | true ↦ raises (did.Fail n text) (Invalid SwitchFinished) g l
-  | false ↦ does (did.Fail n text) g (fails g n (raised.One (member (Failure text) l)) (counted l))
+  | false ↦ new_raise (Failure text) l (λ x m. does (did.Fail n text) g (fails g n (raised.One x) m))
 ]
 
 -- ## The end of a fiber

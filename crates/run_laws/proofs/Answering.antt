@@ -16,7 +16,7 @@ use Rattle.eio_value.specs.declared.plain.Plain.TheVariants.{Exit}
 use Rattle.eio_value.specs.declared.raised.Outcome.{Outcome}
 use Rattle.eio_value.specs.declared.raised.Outcome.TheVariants as outcome
 use Rattle.eio_value.specs.declared.raised.Raised.{Raised}
-use Rattle.eio_value.specs.declared.raised.Raised.TheVariants.{Cancelled}
+use Rattle.eio_value.specs.declared.raised.Raised.TheVariants.{One, Cancelled}
 use Rattle.eio_value.specs.declared.value.Value.{Value}
 use Rattle.eio_value.specs.declared.value.Value.TheVariants as value
 use Rattle.eio_value.specs.Table.{text_at}
@@ -84,14 +84,14 @@ module _ (P : Member → Type 0) (kinds : ℕ → Bool) (s : ℕ) where
 
   goes_on_kept : (call : Ask) (it : Did) (reply : Said2) → AllDid P it → AllReply P reply → (given : Value) (g : ℕ) (l : DomainState) → AllCall P call → Stands P kinds s l
       → Kept P kinds s (steps.told g it reply (to_head (GoesOn (on_objects.goes_on_with (passing call) given)) g l))
-  goes_on_kept call it reply d r given g l all h = telling P kinds s _ d r (head_stands P kinds s (GoesOn (on_objects.goes_on_with (passing call) given)) g l (goes_on_is (passing call) given (passing_is call all)) h)
+  goes_on_kept call it reply d r given g l all h = telling P kinds s _ refl d r (head_stands P kinds s (GoesOn (on_objects.goes_on_with (passing call) given)) g l (goes_on_is (passing call) given (passing_is call all)) h)
 
   answered_with_kept : (call : Ask) (it : Did) (reply : Said2) → AllDid P it → AllReply P reply → (given : Value) (g : ℕ) (l : DomainState) → AllCall P call → Stands P kinds s l → Kept P kinds s (on_objects.answered_with call it reply given g l)
-  answered_with_kept (ask.End result) it reply d r given g l all h = telling P kinds s _ d r (ends_stands P kinds s result g l all h)
+  answered_with_kept (ask.End result) it reply d r given g l all h = telling P kinds s _ refl d r (ends_stands P kinds s result g l all h)
   answered_with_kept call it reply d r given g l all h = goes_on_kept call it reply d r given g l all h
 
   nothing_done_kept : (call : Ask) (it : Did) → AllDid P it → (g : ℕ) (l : DomainState) → AllCall P call → Stands P kinds s l → Kept P kinds s (on_objects.nothing_done call it g l)
-  nothing_done_kept (ask.Submit executor weight given block) it d g l all h = telling P kinds s _ (none P) (none P) h
+  nothing_done_kept (ask.Submit executor weight given block) it d g l all h = telling P kinds s _ refl (none P) (none P) h
   nothing_done_kept call it d g l all h = answered_with_kept call it said.Nothing d (none P) value.Unit g l all h
 
   -- ## Obligations
@@ -164,18 +164,19 @@ module _ (P : Member → Type 0) (kinds : ℕ → Bool) (s : ℕ) where
   -- ## Answers of objects
 
   -- what is raised under the counter's number
-  raised_new : (what : Plain) (raised : Raised) (it : Did) → AllDid P it → (g : ℕ) (l : DomainState) → AllRaised (With P (Some (member what l))) raised → Stands P kinds s l → Kept P kinds s (steps.raises_again it raised g (counted l))
-  raised_new what raised it d g l all h = record {
-    born = Some (member what l);
-    to = s + 1;
-    range = is_born P kinds s what l h;
-    stands = head_stands (With P (Some (member what l))) kinds (s + 1) (GoesOn (outcome.Err raised)) g (counted l) all (new_stands P kinds s what l h);
-    call = (λ x i. more P (Some (member what l)) x (d x i));
-    reply = all;
-  }
+  raised_new : (what : Plain) (raised : Raised) (it : Did) → AllDid P it → (g : ℕ) (l : DomainState) → raised ≡ One (member what l) → Stands P kinds s l → Kept P kinds s (steps.raises_given it raised g l)
+  raised_new what raised it d g l alone h =
+      subst (λ r. Kept P kinds s (steps.raises_given it r g l)) (sym alone) (record {
+        born = Some (member what l);
+        to = s + 1;
+        range = is_born P kinds s what l h;
+        stands = head_stands (With P (Some (member what l))) kinds (s + 1) (GoesOn (outcome.Err (One (member what l)))) g (counted l) (all_one (With P (Some (member what l))) (member what l) (inr refl)) (new_stands P kinds s what l h);
+        call = (λ x i. more P (Some (member what l)) x (d x i));
+        reply = all_one (With P (Some (member what l))) (member what l) (inr refl);
+      })
 
-  raised_kept : (call : Ask) (what : Plain) (raised : Raised) (it : Did) → AllDid P it → (g : ℕ) (l : DomainState) → (awaits call ≡ true → AllRaised P raised) → (awaits call ≡ false → AllRaised (With P (Some (member what l))) raised) → Stands P kinds s l
-      → Kept P kinds s (steps.raises_again it raised g (on_objects.counted_for call l))
+  raised_kept : (call : Ask) (what : Plain) (raised : Raised) (it : Did) → AllDid P it → (g : ℕ) (l : DomainState) → (awaits call ≡ true → AllRaised P raised) → (awaits call ≡ false → raised ≡ One (member what l)) → Stands P kinds s l
+      → Kept P kinds s (on_objects.raised_for call it raised g l)
   raised_kept (ask.OnObject syntax.Await object) what raised it d g l old new h = answers_kept P kinds s it d (outcome.Err raised) g l (old refl) h
   raised_kept call what raised it d g l old new h = raised_new what raised it d g l (new refl) h
 
@@ -184,10 +185,10 @@ module _ (P : Member → Type 0) (kinds : ℕ → Bool) (s : ℕ) where
   IfDone other it = Unit {0}
 
   pub answered_kept : (call : Ask) (role : Role) (it : Did) → AllDid P it → (asked : Asked) (what : Plain) (given : Answer) (g : ℕ) (l : DomainState) → AllCall P call
-      → (awaits call ≡ true → AllAnswer P P P given) → (awaits call ≡ false → AllAnswer P (With P (Some (member what l))) P given) → IfDone given (ResolvesNoMutex (resolves call)) → Stands P kinds s l
+      → (awaits call ≡ true → AllAnswer P (AllRaised P) P given) → (awaits call ≡ false → AllAnswer P (λ raised. raised ≡ One (member what l)) P given) → IfDone given (ResolvesNoMutex (resolves call)) → Stands P kinds s l
       → Kept P kinds s (on_objects.answered_by call role it asked given g l)
   answered_kept call role it d asked what (answer.Done given) g l all old new fits h = answered_with_kept call it (said.Done given) d (none P) given g (on_objects.owing call role given g l) all (owing_stands call role given g l fits h)
-  answered_kept call role it d asked what answer.Waits g l all old new fits h = telling P kinds s _ d (none P) (parked_stands P kinds s (OnObject asked.who) g (on_objects.owing_wait call g l) (none P) (owing_wait_stands call g l h))
+  answered_kept call role it d asked what answer.Waits g l all old new fits h = telling P kinds s _ refl d (none P) (parked_stands P kinds s (OnObject asked.who) g (on_objects.owing_wait call g l) (none P) (owing_wait_stands call g l h))
   answered_kept call role it d asked what answer.Off g l all old new fits h = goes_off_kept P kinds s it d g l h
   answered_kept call role it d asked what answer.Nothing g l all old new fits h = nothing_done_kept call it d g l all h
   answered_kept call role it d asked what (answer.Raised raised) g l all old new fits h = raised_kept call what raised it d g l old new h
@@ -238,7 +239,7 @@ module _ (P : Member → Type 0) (kinds : ℕ → Bool) (s : ℕ) where
       record step { state = to_head (GoesOn (outcome.Ok value.Unit)) new step.state })) h
       (λ c m k.
       let t : DomainState = made c (OfWriter number) (record { work = []; variables = [] }) m in
-      telling P kinds s _ (none P) (none P) (head_stands P kinds s (GoesOn (outcome.Ok value.Unit)) (length m.fibers) (on_mocks.goes_into call number it g t).state (none P)
+      telling P kinds s _ refl (none P) (none P) (head_stands P kinds s (GoesOn (outcome.Ok value.Unit)) (length m.fibers) (on_mocks.goes_into call number it g t).state (none P)
       (into_stands call number g t (made_stands P kinds s c (OfWriter number) (record { work = []; variables = [] }) m k))))
 
   by_passing_kept : (passed : Option Outcome) (given : Value) (it : Said) (g : ℕ) (l : DomainState) → AllResult P passed → Stands P kinds s l
@@ -247,33 +248,33 @@ module _ (P : Member → Type 0) (kinds : ℕ → Bool) (s : ℕ) where
         | None ↦ steps.answers (did.Mock it) (outcome.Ok given) g l
       ])
   by_passing_kept None given it g l all h = answers_kept P kinds s (did.Mock it) (none P) (outcome.Ok given) g l (none P) h
-  by_passing_kept (Some result) given it g l all h = telling P kinds s _ (none P) (none P) (head_stands P kinds s (GoesOn result) g l all h)
+  by_passing_kept (Some result) given it g l all h = telling P kinds s _ refl (none P) (none P) (head_stands P kinds s (GoesOn result) g l all h)
 
   done_kept : (call : Ask) (given : Value) (it : Said) (g : ℕ) (l : DomainState) → AllCall P call → Stands P kinds s l → Kept P kinds s (on_mocks.done_by call given it g l)
-  done_kept (ask.OpenReader flow limit block) given it g l all h = telling P kinds s _ (none P) (none P) (into_stands (ask.OpenReader flow limit block) (number_in given) g l h)
-  done_kept (ask.OpenDirectory place path block) given it g l all h = telling P kinds s _ (none P) (none P) (into_stands (ask.OpenDirectory place path block) (number_in given) g l h)
+  done_kept (ask.OpenReader flow limit block) given it g l all h = telling P kinds s _ refl (none P) (none P) (into_stands (ask.OpenReader flow limit block) (number_in given) g l h)
+  done_kept (ask.OpenDirectory place path block) given it g l all h = telling P kinds s _ refl (none P) (none P) (into_stands (ask.OpenDirectory place path block) (number_in given) g l h)
   done_kept (ask.OpenWriter flow block) given it g l all h = opens_writer_kept (ask.OpenWriter flow block) (number_in given) it g l h
   done_kept (ask.PutText writer text) given it g l all h = answers_kept P kinds s (did.Mock it) (none P) (outcome.Ok given) g (on_mocks.wakes_by_bytes writer (text_at l.texts text) l) (none P) (wakes_by_bytes_stands writer (text_at l.texts text) l h)
   done_kept call given it g l all h = by_passing_kept (passing call) given it g l (passing_is call all) h
 
   waits_by_kept : (call : Ask) (g : ℕ) (l : DomainState) → AllCall P call → Stands P kinds s l → Kept P kinds s (on_mocks.waits_by call g l)
-  waits_by_kept (ask.ShutWriter writer result) g l all h = telling P kinds s _ (none P) (none P) (parked_stands P kinds s (ForOthers (ask.ShutWriter writer result)) g (on_mocks.wakes_copier writer l) all (wakes_copier_stands writer l h))
-  waits_by_kept call g l all h = telling P kinds s _ (none P) (none P) (parked_stands P kinds s (ForOthers call) g l all h)
+  waits_by_kept (ask.ShutWriter writer result) g l all h = telling P kinds s _ refl (none P) (none P) (parked_stands P kinds s (ForOthers (ask.ShutWriter writer result)) g (on_mocks.wakes_copier writer l) all (wakes_copier_stands writer l h))
+  waits_by_kept call g l all h = telling P kinds s _ refl (none P) (none P) (parked_stands P kinds s (ForOthers call) g l all h)
 
   pub mock_answered_kept : (call : Ask) (given : Extra) (g : ℕ) (l : DomainState) → AllCall P call → ExtraIs l.serial given → Stands P kinds s l → Kept P kinds s (on_mocks.mock_answered call given g l)
   mock_answered_kept call (extra.Done given it) g l all is h = done_kept call given it g l all h
-  mock_answered_kept call (extra.More it) g l all is h = telling P kinds s _ (none P) (none P) (head_stands P kinds s (CallsAgain call) g l all h)
-  mock_answered_kept call extra.Back g l all is h = telling P kinds s _ (none P) (none P) (back_stands P kinds s (CallsAgain call) g l all h)
+  mock_answered_kept call (extra.More it) g l all is h = telling P kinds s _ refl (none P) (none P) (head_stands P kinds s (CallsAgain call) g l all h)
+  mock_answered_kept call extra.Back g l all is h = telling P kinds s _ refl (none P) (none P) (back_stands P kinds s (CallsAgain call) g l all h)
   mock_answered_kept call extra.Waits g l all is h = waits_by_kept call g l all h
   mock_answered_kept call (extra.Raised raised it) g l all is h =
-      raised_new is.what raised (did.Mock it) (none P) g l (subst (AllRaised (With P (Some (member is.what l)))) (sym is.alone) (all_one (With P (Some (member is.what l))) (member is.what l) (inr refl))) h
+      raised_new is.what raised (did.Mock it) (none P) g l is.alone h
 
   pub carried_kept : (writer : ℕ) (given : Extra) (g : ℕ) (l : DomainState) → Stands P kinds s l → Kept P kinds s (on_mocks.carried_by writer given g l)
-  carried_kept writer (extra.More it) g l h = telling P kinds s _ (none P) (none P) (head_stands P kinds s (GoesOn (outcome.Ok value.Unit)) g l (none P) h)
+  carried_kept writer (extra.More it) g l h = telling P kinds s _ refl (none P) (none P) (head_stands P kinds s (GoesOn (outcome.Ok value.Unit)) g l (none P) h)
   carried_kept writer (extra.Done given it) g l h =
       let t : DomainState = on_ends.ends (outcome.Ok value.Unit) g l in
-      telling P kinds s _ (none P) (none P) (woken_if_stands P kinds s (on_mocks.shutter writer t.fibers) t (ends_stands P kinds s (outcome.Ok value.Unit) g l (none P) h))
-  carried_kept writer other g l h = telling P kinds s _ (none P) (none P) (parked_stands P kinds s Resting g l (none P) h)
+      telling P kinds s _ refl (none P) (none P) (woken_if_stands P kinds s (on_mocks.shutter writer t.fibers) t (ends_stands P kinds s (outcome.Ok value.Unit) g l (none P) h))
+  carried_kept writer other g l h = telling P kinds s _ refl (none P) (none P) (parked_stands P kinds s Resting g l (none P) h)
 
   -- ## Strikes
 
@@ -288,7 +289,7 @@ module _ (P : Member → Type 0) (kinds : ℕ → Bool) (s : ℕ) where
         call = none (With P (Some (member what l)));
         reply = none (With P (Some (member what l)));
       }
-  strike_kept duty g false l h = telling P kinds s _ (none P) (none P) h
+  strike_kept duty g false l h = telling P kinds s _ refl (none P) (none P) h
 
   pub own_strike_kept : (duty : Duty) (g : ℕ) (standing : Standing) (l : DomainState) → Stands P kinds s l → Kept P kinds s (on_duties.own_strike duty g standing l)
   own_strike_kept duty g (Parked Asleep) l h = strike_kept duty g true (record l { timers = remove g l.timers }) h

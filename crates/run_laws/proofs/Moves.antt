@@ -10,7 +10,7 @@ use Rattle.machine_model.specs.Domain.{Role, OfJob, OfWriter, Standing, Parked, 
 use Rattle.machine_model.specs.Labels.{Asks, Idle, Own}
 use Rattle.machine_model.specs.Mock.{Mock, Moved, opening, comes, move, move_by, moved_by, moves, can_move, has_any}
 use Rattle.machine_model.specs.Preparing as doing
-use Rattle.machine_model.specs.Preparing.{Doing, Prepared, prepared, prepared_ready, prepared_timers, moves_of, next_of}
+use Rattle.machine_model.specs.Preparing.{Doing, Prepared, at_once, prepared, prepared_ready, prepared_timers, moves_of, next_of}
 use Rattle.machine_model.specs.Moves.{stepped_by}
 use Rattle.row_model.specs.Timers.{Timer}
 use Rattle.machine_model.specs.Trace.{last_after, run}
@@ -24,7 +24,7 @@ isnt_idle other = true
 what_is_asked_comes : (script : Script) (m : Mock) (it : Prepared) → is_some (move_by script m it) ≡ isnt_idle (asks_by it)
 what_is_asked_comes script m it = by (asks_by it)
   where
-    by : (asks : Asks) → is_some (elim (comes m (m.local.stamp + 1) asks) [ None ↦ None | Some came ↦ Some (moved_by m (m.local.stamp + 1) came (stepped_by script it came.label m.local)) ]) ≡ isnt_idle asks
+    by : (asks : Asks) → is_some (elim (comes m (m.local.stamp + 1) asks) [ None ↦ None | Some came ↦ Some (moved_by m (m.local.stamp + 1) it.raises came (stepped_by script it came.label m.local)) ]) ≡ isnt_idle asks
     by Idle = refl
     by other = refl
 
@@ -58,7 +58,7 @@ calls_ask (ask.OpenWriter flow block) g l = either_asks (is_full_for_one l) _ re
 calls_ask call g l = refl
 
 -- a domain that does something next asks for something, if only for its own move
-all_but_rest_ask : (doing : Doing) (l : DomainState) → isnt_idle (asks_by (record { doing = doing; state = l })) ≡ isnt_rest doing
+all_but_rest_ask : (doing : Doing) (l : DomainState) → isnt_idle (asks_by (at_once doing l)) ≡ isnt_rest doing
 all_but_rest_ask doing.Rests l = refl
 all_but_rest_ask (doing.Owes duty) l = duties_ask duty.owed duty.maker l
 all_but_rest_ask (doing.Calls g call) l = calls_ask call g l
@@ -72,13 +72,13 @@ fibers_do (OfWriter writer) g fiber next l = refl
 fibers_do role g fiber next l = refl
 
 abbrev pub by_timers : DomainState → List Timer → Prepared
-by_timers l standing = elim standing [ [] ↦ record { doing = doing.Rests; state = l } | timer ∷ others ↦ record { doing = doing.Ticks; state = l } ]
+by_timers l standing = elim standing [ [] ↦ at_once doing.Rests l | timer ∷ others ↦ at_once doing.Ticks l ]
 
 abbrev pub by_ready : DomainState → List ℕ → Prepared
 by_ready l ready = elim ready [ [] ↦ prepared_timers l | g ∷ others ↦ doing.moves g (fiber_at l.fibers g) (record l { ready = others }) ]
 
 abbrev pub by_duties : DomainState → List Duty → Prepared
-by_duties l duties = elim duties [ [] ↦ prepared_ready l | duty ∷ others ↦ record { doing = doing.Owes duty; state = record l { duties = others } } ]
+by_duties l duties = elim duties [ [] ↦ prepared_ready l | duty ∷ others ↦ at_once (doing.Owes duty) (record l { duties = others }) ]
 
 timers_do : (l : DomainState) (standing : List Timer) → isnt_rest (by_timers l standing).doing ≡ has_any standing
 timers_do l [] = refl

@@ -1,8 +1,8 @@
 -- How a move begins: the silent statements of a fiber raise at most one exception that its call holds.
-use Rattle.std.proofs.Common.{◌≡◌, ℕ, inr, Bool, List, [], ◌∷◌, Option, Some, None, refl, subst, arith}
+use Rattle.std.proofs.Common.{◌≡◌, ℕ, inr, Bool, List, [], ◌∷◌, Option, Some, None, refl, sym}
 use Rattle.std.specs.Prelude.{unwrap_or}
 use Rattle.std.specs.List.{All}
-use Rattle.std.proofs.lemmas.List.Elements.{All-set}
+use Rattle.std.proofs.lemmas.List.Elements.{All-set, Contains-push}
 use Rattle.eio_value.specs.declared.plain.Member.{Member}
 use Rattle.eio_value.specs.declared.plain.Plain.{Plain}
 use Rattle.eio_value.specs.declared.plain.Plain.TheVariants.{Exit}
@@ -13,26 +13,26 @@ use Rattle.step_model.specs.Settling.{Settled}
 use Rattle.step_model.specs.Work.{Carry, member, counted}
 use Rattle.machine_model.specs.Domain.{Role, OfWriter, Next, GoesOn, LooksUp, FindsOff, CallsAgain, Standing, Ready, Parked, Ended, Fiber, Duty, DomainState, fiber_at, off_for}
 use Rattle.machine_model.specs.Preparing as doing
-use Rattle.machine_model.specs.Preparing.{Doing, Prepared, prepared, prepared_ready, prepared_timers, next_of, next_call, found_off, carry_of, called_by, moves_of}
+use Rattle.machine_model.specs.Preparing.{Doing, Prepared, at_once, prepared, prepared_ready, prepared_timers, next_of, next_call, found_off, carry_of, called_by, moves_of}
 use Rattle.row_model.specs.Timers.{Timer}
 use Rattle.run_laws.proofs.Places.{all_head, all_tail, AllCall, AllNext, AllStanding, none, all_cancelled}
-use Rattle.run_laws.proofs.Settling.{Born, With, Settles, passed_settles, thrown_settles}
+use Rattle.run_laws.proofs.Settling.{BornIn, With, Since, counted_since, Settles, passed_settles, thrown_settles}
 use Rattle.run_laws.proofs.Standings.{DutyFits, FiberIs, Stands, fiber_is}
 use Rattle.run_laws.proofs.Raising.{more, stands_more}
 use Rattle.run_laws.proofs.Moves.{by_timers, by_ready, by_duties}
 
 module _ (P : Member → Type 0) where
-  off_settles : (why : Plain) (fiber : Fiber) (c : Carry) → Settles P c.serial (found_off why fiber c)
-  off_settles why fiber c =
-      thrown_settles P fiber.work (Cancelled (member why c)) (counted c) c.serial (Some (member why c)) (omega arith, omega arith)
+  off_settles : (from : ℕ) (why : Plain) (fiber : Fiber) (c : Carry) → Since from c → Settles P from (found_off why fiber c)
+  off_settles from why fiber c since =
+      thrown_settles P fiber.work (Cancelled (member why c)) (counted why c) from (Some (member why c)) (counted_since from why c since, Contains-push c.raises (member why c))
       (all_cancelled (With P (Some (member why c))) (member why c) (inr refl))
 
-  next_settles : (next : Next) (off : Option Plain) (fiber : Fiber) (c : Carry) → AllNext P next → Settles P c.serial (next_call next off fiber c)
-  next_settles (GoesOn it) off fiber c all = passed_settles P it fiber.work c all
-  next_settles LooksUp (Some why) fiber c all = off_settles why fiber c
-  next_settles LooksUp None fiber c all = passed_settles P (outcome.Ok value.Unit) fiber.work c (none P)
-  next_settles FindsOff off fiber c all = off_settles (unwrap_or off Exit) fiber c
-  next_settles (CallsAgain call) off fiber c all = record { born = None; range = omega arith; call = all }
+  next_settles : (from : ℕ) (next : Next) (off : Option Plain) (fiber : Fiber) (c : Carry) → Since from c → AllNext P next → Settles P from (next_call next off fiber c)
+  next_settles from (GoesOn it) off fiber c since all = passed_settles P from it fiber.work c since all
+  next_settles from LooksUp (Some why) fiber c since all = off_settles from why fiber c since
+  next_settles from LooksUp None fiber c since all = passed_settles P from (outcome.Ok value.Unit) fiber.work c since (none P)
+  next_settles from FindsOff off fiber c since all = off_settles from (unwrap_or off Exit) fiber c since
+  next_settles from (CallsAgain call) off fiber c since all = record { born = None; range = (since, tt); call = all }
 
   next_is : (standing : Standing) → AllStanding P standing → AllNext P (next_of standing)
   next_is (Ready next) all = all
@@ -47,12 +47,12 @@ module _ (P : Member → Type 0) (kinds : ℕ → Bool) (from : ℕ) where
 
   pub record Prepares (it : Prepared) : Type 0 where
     pub born : Option Member
-    pub range : Born from it.state.serial born
+    pub range : BornIn from it.raises it.state.serial born
     pub stands : Stands (With P born) kinds it.state.serial it.state
     pub doing : DoingIs born it.doing
 
-  prepares_quietly : (doing : Doing) (l : DomainState) → l.serial ≡ from → Stands P kinds l.serial l → DoingIs None doing → Prepares (record { doing = doing; state = l })
-  prepares_quietly doing l e h is = record { born = None; range = omega (arith, e); stands = h; doing = is }
+  prepares_quietly : (doing : Doing) (l : DomainState) → l.serial ≡ from → Stands P kinds l.serial l → DoingIs None doing → Prepares (at_once doing l)
+  prepares_quietly doing l e h is = record { born = None; range = (sym e, tt); stands = h; doing = is }
 
   called_prepares : (g : ℕ) (fiber : Fiber) (settled : Settled) (l : DomainState) → AllStanding P fiber.standing → Stands P kinds l.serial l → Settles P from settled → Prepares (called_by g fiber settled l)
   called_prepares g fiber settled l all h it =
@@ -67,8 +67,8 @@ module _ (P : Member → Type 0) (kinds : ℕ → Bool) (from : ℕ) where
   moves_prepares : (role : Role) (g : ℕ) (fiber : Fiber) (l : DomainState) → l.serial ≡ from → AllStanding P fiber.standing → Stands P kinds l.serial l → Prepares (moves_of role g fiber (next_of fiber.standing) l)
   moves_prepares (OfWriter writer) g fiber l e all h = prepares_quietly (doing.Carries g writer) l e h tt
   moves_prepares role g fiber l e all h =
-      called_prepares g fiber _ l all h (subst (λ n. Settles P n (next_call (next_of fiber.standing) (off_for l g) fiber (carry_of fiber l))) e
-      (next_settles P (next_of fiber.standing) (off_for l g) fiber (carry_of fiber l) (next_is P fiber.standing all)))
+      called_prepares g fiber _ l all h
+      (next_settles P from (next_of fiber.standing) (off_for l g) fiber (carry_of fiber l) (sym e) (next_is P fiber.standing all))
 
   timers_prepare : (l : DomainState) (standing : List Timer) → l.serial ≡ from → Stands P kinds l.serial l → Prepares (by_timers l standing)
   timers_prepare l [] e h = prepares_quietly doing.Rests l e h tt

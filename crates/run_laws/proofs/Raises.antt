@@ -1,5 +1,5 @@
 -- One move: what it raises. The silent statements before its call raise at most one exception that stays, and the rest of the move at most one more.
-use Rattle.std.proofs.Common.{◌≡◌, ℕ, ◌+◌, ◌⊎◌, inl, inr, Bool, true, false, [], ◌∷◌, Option, Some, None, refl, sym, ap, ◌∙◌, subst, arith, true≢false}
+use Rattle.std.proofs.Common.{◌≡◌, ℕ, ◌+◌, ◌⊎◌, inl, inr, Bool, true, false, List, [], ◌∷◌, ◌++◌, Option, Some, None, refl, sym, ap, ◌∙◌, subst, true≢false}
 use Rattle.std.specs.Prelude.{is_some}
 use Rattle.std.proofs.lemmas.List.Elements.{All-append}
 use Rattle.eio_value.specs.declared.call.Answer.{Answer}
@@ -12,6 +12,8 @@ use Rattle.eio_value.specs.declared.mock_call.MockCall.{MockCall}
 use Rattle.eio_value.specs.declared.mock_call.MockCall.TheVariants as mock
 use Rattle.eio_value.specs.declared.plain.Member.{Member}
 use Rattle.eio_value.specs.declared.plain.Plain.TheVariants.{Poisoned}
+use Rattle.eio_value.specs.declared.raised.Raised.{Raised}
+use Rattle.eio_value.specs.declared.raised.Raised.TheVariants.{One}
 use Rattle.row_model.specs.Data.{Mutex}
 use Rattle.row_model.specs.declared.hold.Hold.TheVariants as hold
 use Rattle.eio_value.specs.Sending.{Sent, Resumes, Starts}
@@ -24,14 +26,15 @@ use Rattle.machine_model.specs.DutyMoves as on_duties
 use Rattle.machine_model.specs.ObjectMoves.{did_ask, object_answered}
 use Rattle.machine_model.specs.Labels.{Asks, Own, Inner, Called, Struck, Mocked}
 use Rattle.machine_model.specs.Mock.{Mock, Came, Moved, comes, moved_by, move_by, move}
-use Rattle.machine_model.specs.Moves.{stepped_by, with_message}
+use Rattle.machine_model.specs.Moves.{stepped_by, raises_by, with_message}
 use Rattle.machine_model.specs.Outside.{OutsideStep, outside}
 use Rattle.machine_model.specs.Preparing as doing
 use Rattle.machine_model.specs.Preparing.{Doing, Prepared, prepared}
 use Rattle.machine_model.specs.Shared.{SharedState, Asked, row_at, stepped, mine_of, after_call, strike_wins, after_strike}
 use Rattle.machine_model.specs.Steps.{Step, member, counted}
-use Rattle.run_laws.proofs.Places.{none, AllDid, AllReply, all_but, AllCall, AllMessage}
-use Rattle.run_laws.proofs.Settling.{Born, With}
+use Rattle.run_laws.specs.Serials.{AreNumbered}
+use Rattle.run_laws.proofs.Places.{none, AllRaised, AllDid, AllReply, all_but, AllCall, AllMessage}
+use Rattle.run_laws.proofs.Settling.{BornIn, With}
 use Rattle.run_laws.proofs.Rows.{is_mutex, is_await, is_wake, raises_of, raise_of, InBrought, AllAnswer, Finds, StepIs, called_is}
 use Rattle.run_laws.proofs.Outside.{outside_is}
 use Rattle.run_laws.proofs.Standings.{DutyFits, Stands, all_single}
@@ -46,27 +49,31 @@ shares_more P born shared h = (
   λ receiver sender. all_but (AllMessage P) {Q = AllMessage (With P born)} (shared.posts receiver sender) (λ it all x i. more P born x (all x i)) (h.1 receiver sender),
 )
 
--- the rest of a move, once it is prepared: the domain is l, and what is outside is still as in m
-module _ (P : Member → Type 0) (kinds : ℕ → Bool) (script : Script) (m : Mock) (l : DomainState) where
+-- the rest of a move, once it is prepared: the domain is l, these raises were made, and what is outside is still as in m
+module _ (P : Member → Type 0) (kinds : ℕ → Bool) (script : Script) (m : Mock) (l : DomainState) (before : List Member) where
   -- an object that is meant to be no mutex is none, unless P holds of everything anyway
   abbrev pub Agrees : Type 0
   Agrees = (object : ℕ) → kinds object ≡ false → (kinds_of m.shared.rows object ≡ false) ⊎ ((x : Member) → P x)
 
   -- at most one exception is raised, and P holds of all others that stand there then or that the line tells
   pub record Ends (moved : Moved) : Type 0 where
+    pub raises : List Member
     pub born : Option Member
-    pub range : Born l.serial moved.next.local.serial born
+    pub all : moved.raises ≡ before ++ raises
+    pub range : BornIn l.serial raises moved.next.local.serial born
     pub stands : Stands (With P born) kinds moved.next.local.serial moved.next.local
     pub shares : Shares (With P born) moved.next.shared
     pub call : AllDid (With P born) moved.line.did
     pub reply : AllReply (With P born) moved.line.reply
     pub same_kinds : (n : ℕ) → kinds_of moved.next.shared.rows n ≡ kinds_of m.shared.rows n
 
-  ends_with : (stamp : ℕ) (came : Came) (step : Step) (kept : Kept P kinds l.serial step) → Shares (With P kept.born) came.shared → ((n : ℕ) → kinds_of came.shared.rows n ≡ kinds_of m.shared.rows n)
-      → Ends (moved_by m stamp came step)
-  ends_with stamp came step kept shares same = record {
+  ends_with : (stamp : ℕ) (came : Came) (step : Step) → raises_by before came.label step ≡ before ++ step.raises → (kept : Kept P kinds l.serial step) → Shares (With P kept.born) came.shared → ((n : ℕ) → kinds_of came.shared.rows n ≡ kinds_of m.shared.rows n)
+      → Ends (moved_by m stamp before came step)
+  ends_with stamp came step all kept shares same = record {
+    raises = step.raises;
     born = kept.born;
-    range = subst (λ t. Born l.serial t kept.born) (sym kept.stands.0) kept.range;
+    all = all;
+    range = subst (λ t. BornIn l.serial step.raises t kept.born) (sym kept.stands.0) kept.range;
     stands = (refl, kept.stands.1, kept.stands.2, kept.stands.3, kept.stands.4);
     shares = shares;
     call = kept.call;
@@ -75,9 +82,9 @@ module _ (P : Member → Type 0) (kinds : ℕ → Bool) (script : Script) (m : M
   }
 
   -- nothing that is shared changes
-  ends_alone : (stamp : ℕ) (came : Came) (step : Step) → came.shared ≡ m.shared → Kept P kinds l.serial step → Shares P m.shared → Ends (moved_by m stamp came step)
-  ends_alone stamp came step same kept shares =
-      ends_with stamp came step kept (subst (Shares (With P kept.born)) (sym same) (shares_more P kept.born m.shared shares)) (λ n. ap (λ (shared : SharedState). kinds_of shared.rows n) same)
+  ends_alone : (stamp : ℕ) (came : Came) (step : Step) → raises_by before came.label step ≡ before ++ step.raises → came.shared ≡ m.shared → Kept P kinds l.serial step → Shares P m.shared → Ends (moved_by m stamp before came step)
+  ends_alone stamp came step all same kept shares =
+      ends_with stamp came step all kept (subst (Shares (With P kept.born)) (sym same) (shares_more P kept.born m.shared shares)) (λ n. ap (λ (shared : SharedState). kinds_of shared.rows n) same)
 
   abbrev with_message_kept : (mine : Option Message) (step : Step) (kept : Kept P kinds l.serial step) → AllMine (With P kept.born) kinds kept.to mine → Kept P kinds l.serial (with_message script mine step)
   with_message_kept mine step kept all =
@@ -103,17 +110,17 @@ module _ (P : Member → Type 0) (kinds : ℕ → Bool) (script : Script) (m : M
   -- by what is known of the object's step, and of the domain's before the message
   call_ends : (stamp : ℕ) (asked : Asked) (step : Step) (kept : Kept P kinds l.serial step) → RowIs P (step_of asked).row → is_mutex (step_of asked).row.values ≡ kinds_of m.shared.rows asked.object
       → Sends (With P kept.born) (step_of asked).sent → Shares P m.shared
-      → Ends (moved_by m stamp (came_of stamp asked) (with_message script (mine_of m.local.number stamp (step_of asked).sent) step))
+      → Ends (moved_by m stamp before (came_of stamp asked) (with_message script (mine_of m.local.number stamp (step_of asked).sent) step))
   call_ends stamp asked step kept row same sent shares =
-      ends_with stamp (came_of stamp asked) (with_message script (mine_of m.local.number stamp (step_of asked).sent) step)
+      ends_with stamp (came_of stamp asked) (with_message script (mine_of m.local.number stamp (step_of asked).sent) step) refl
       (with_message_kept (mine_of m.local.number stamp (step_of asked).sent) step kept (mine_is (With P kept.born) kinds kept.to m.local.number stamp (step_of asked).sent sent))
       (call_shares (With P kept.born) m.shared m.local.number stamp asked (step_of asked) (λ x i. more P kept.born x (row x i)) sent (shares_more P kept.born m.shared shares))
       (set_kinds m.shared.rows asked.object (step_of asked).row same)
 
   -- ### Of a fiber
 
-  finds_by : (A : Member → Type 0) (asked : Ask) (object : ℕ) (it : Call) → OnThis asked object it → AllCall P asked → Shares P m.shared
-      → (is_await it ≡ true → (x : Member) → P x → A x) → (is_await it ≡ false → A (raise_of l.serial (row_at m.shared.rows object).values)) → Finds P A P (row_at m.shared.rows object).values l.serial it
+  finds_by : (A : Raised → Type 0) (asked : Ask) (object : ℕ) (it : Call) → OnThis asked object it → AllCall P asked → Shares P m.shared
+      → (is_await it ≡ true → (raised : Raised) → AllRaised P raised → A raised) → (is_await it ≡ false → A (One (raise_of l.serial (row_at m.shared.rows object).values))) → Finds P A P (row_at m.shared.rows object).values l.serial it
   finds_by A asked object it on all shares old new = record {
     kept = row_is P m.shared.rows object shares.0;
     brought = (λ x i. all x (on.brings x i));
@@ -129,23 +136,23 @@ module _ (P : Member → Type 0) (kinds : ℕ → Bool) (script : Script) (m : M
   abbrev step_at : (g object : ℕ) → Call → Stepped
   step_at g object it = step_of (asked_of g object it)
 
-  all_answered : (asked : Ask) (g object : ℕ) (it : Call) → OnThis asked object it → AllCall P asked → Shares P m.shared → awaits asked ≡ true → AllAnswer P P P (step_at g object it).answer
+  all_answered : (asked : Ask) (g object : ℕ) (it : Call) → OnThis asked object it → AllCall P asked → Shares P m.shared → awaits asked ≡ true → AllAnswer P (AllRaised P) P (step_at g object it).answer
   all_answered asked g object it on all shares await =
-      (called_is P P P (row_at m.shared.rows object) (wait_of l g) (is_some (off_for l g)) l.serial it
-      (finds_by P asked object it on all shares (λ e x i. i) (λ e. absurd (true≢false (sym await ∙ sym on.same_await ∙ e))))).answer
+      (called_is P (AllRaised P) P (row_at m.shared.rows object) (wait_of l g) (is_some (off_for l g)) l.serial it
+      (finds_by (AllRaised P) asked object it on all shares (λ e raised old. old) (λ e. absurd (true≢false (sym await ∙ sym on.same_await ∙ e))))).answer
 
-  new_answered : (asked : Ask) (g object : ℕ) (it : Call) → OnThis asked object it → AllCall P asked → Shares P m.shared
-      → AllAnswer P (With P (Some (raise_of l.serial (row_at m.shared.rows object).values))) P (step_at g object it).answer
-  new_answered asked g object it on all shares =
-      let A : Member → Type 0 = With P (Some (raise_of l.serial (row_at m.shared.rows object).values)) in
+  new_answered : (asked : Ask) (g object : ℕ) (it : Call) → OnThis asked object it → AllCall P asked → Shares P m.shared → awaits asked ≡ false
+      → AllAnswer P (λ raised. raised ≡ One (raise_of l.serial (row_at m.shared.rows object).values)) P (step_at g object it).answer
+  new_answered asked g object it on all shares await =
+      let A : Raised → Type 0 = λ raised. raised ≡ One (raise_of l.serial (row_at m.shared.rows object).values) in
       (called_is P A P (row_at m.shared.rows object) (wait_of l g) (is_some (off_for l g)) l.serial it
-      (finds_by A asked object it on all shares (λ e x i. inl i) (λ e. inr refl))).answer
+      (finds_by A asked object it on all shares (λ e. absurd (true≢false (sym e ∙ on.same_await ∙ await))) (λ e. refl))).answer
 
   silent_step : (asked : Ask) (g object : ℕ) (it : Call) → OnThis asked object it → AllCall P asked → Shares P m.shared
-      → StepIs P (λ x. Unit {0}) P (is_mutex (row_at m.shared.rows object).values) (step_at g object it)
+      → StepIs P (λ raised. Unit {0}) P (is_mutex (row_at m.shared.rows object).values) (step_at g object it)
   silent_step asked g object it on all shares =
-      called_is P (λ x. Unit {0}) P (row_at m.shared.rows object) (wait_of l g) (is_some (off_for l g)) l.serial it
-      (finds_by (λ x. Unit {0}) asked object it on all shares (λ e x i. tt) (λ e. tt))
+      called_is P (λ raised. Unit {0}) P (row_at m.shared.rows object) (wait_of l g) (is_some (off_for l g)) l.serial it
+      (finds_by (λ raised. Unit {0}) asked object it on all shares (λ e raised old. tt) (λ e. tt))
 
   -- a promise is no mutex where a wake of those that wait for it is owed then. So the kinds that are meant have to be those of the objects
   abbrev pub KindsAre : Type 0
@@ -167,13 +174,13 @@ module _ (P : Member → Type 0) (kinds : ℕ → Bool) (script : Script) (m : M
   done_fits asked g object it on are (answer.Started domain number) done = tt
 
   fiber_call_ends : (stamp : ℕ) (asked : Ask) (g object : ℕ) (it : Call) → OnThis asked object it → KindsAre → AllCall P asked → Stands P kinds l.serial l → Shares P m.shared
-      → Ends (moved_by m stamp (came_of stamp (asked_of g object it)) (stepped_by script (record { doing = doing.Calls g asked; state = l }) (came_of stamp (asked_of g object it)).label m.local))
+      → Ends (moved_by m stamp before (came_of stamp (asked_of g object it)) (stepped_by script (record { doing = doing.Calls g asked; state = l; raises = before }) (came_of stamp (asked_of g object it)).label m.local))
   fiber_call_ends stamp asked g object it on are all h shares =
       let kept : Kept P kinds l.serial (object_answered asked (asked_of g object it) (step_at g object it).answer g l) =
       answered_kept P kinds l.serial asked (fiber_at l.fibers g).role (did_ask asked (fiber_at l.fibers g).role) (ask_is P kinds l.serial asked (fiber_at l.fibers g).role all) (asked_of g object it) (raises_of (row_at m.shared.rows object).values) (step_at g object it).answer g l all
-      (all_answered asked g object it on all shares) (λ e. new_answered asked g object it on all shares) (done_fits asked g object it on are (step_at g object it).answer refl) h
+      (all_answered asked g object it on all shares) (new_answered asked g object it on all shares) (done_fits asked g object it on are (step_at g object it).answer refl) h
       in
-      let is : StepIs P (λ x. Unit {0}) P (is_mutex (row_at m.shared.rows object).values) (step_at g object it) = silent_step asked g object it on all shares in
+      let is : StepIs P (λ raised. Unit {0}) P (is_mutex (row_at m.shared.rows object).values) (step_at g object it) = silent_step asked g object it on all shares in
       call_ends stamp (asked_of g object it) (object_answered asked (asked_of g object it) (step_at g object it).answer g l) kept is.values is.same_kind (sends_more kept.born (step_at g object it).sent is.sent) shares
 
   -- ### Of an obligation
@@ -184,11 +191,11 @@ module _ (P : Member → Type 0) (kinds : ℕ → Bool) (script : Script) (m : M
 
   duty_finds : (H : Member → Type 0) (object : ℕ) (it : Call) → ((x : Member) → InBrought x it → ⊥) → is_await it ≡ false → ((x : Member) → P x → H x)
       → (is_wake it ≡ true → is_mutex (row_at m.shared.rows object).values ≡ true → H (raise_of l.serial (Mutex hold.Poisoned))) → Shares P m.shared
-      → Finds P (λ x. Unit {0}) H (row_at m.shared.rows object).values l.serial it
+      → Finds P (λ raised. Unit {0}) H (row_at m.shared.rows object).values l.serial it
   duty_finds H object it brings await hands wakes shares = record {
     kept = row_is P m.shared.rows object shares.0;
     brought = (λ x i. absurd (brings x i));
-    awaited = (λ e x i. tt);
+    awaited = (λ e raised old. tt);
     answered = (λ e. tt);
     handed = hands;
     woken = wakes;
@@ -202,11 +209,11 @@ module _ (P : Member → Type 0) (kinds : ℕ → Bool) (script : Script) (m : M
 
   -- of those that wait for a promise
   promise_wake_ends : (stamp maker object : ℕ) → kinds object ≡ false → Agrees → Stands P kinds l.serial l → Shares P m.shared → (given : Answer)
-      → Ends (moved_by m stamp (came_of stamp (asked_of maker object (call.NextWake object)))
+      → Ends (moved_by m stamp before (came_of stamp (asked_of maker object (call.NextWake object)))
       (with_message script (mine_at stamp maker object (call.NextWake object)) (on_duties.wake_told (record { maker = maker; owed = Wake object false }) object false given l)))
   promise_wake_ends stamp maker object fits agrees h shares given =
-      let is : StepIs P (λ x. Unit {0}) P (is_mutex (row_at m.shared.rows object).values) (step_at maker object (call.NextWake object)) =
-      called_is P (λ x. Unit {0}) P (row_at m.shared.rows object) (wait_of l maker) (is_some (off_for l maker)) l.serial (call.NextWake object)
+      let is : StepIs P (λ raised. Unit {0}) P (is_mutex (row_at m.shared.rows object).values) (step_at maker object (call.NextWake object)) =
+      called_is P (λ raised. Unit {0}) P (row_at m.shared.rows object) (wait_of l maker) (is_some (off_for l maker)) l.serial (call.NextWake object)
       (duty_finds P object (call.NextWake object) (λ x i. i) refl (λ x i. i) (λ wake kind. no_mutex (agrees object fits) kind) shares)
       in
       let kept : Kept P kinds l.serial (on_duties.wake_told (record { maker = maker; owed = Wake object false }) object false given l) = told given in
@@ -217,8 +224,8 @@ module _ (P : Member → Type 0) (kinds : ℕ → Bool) (script : Script) (m : M
       no_mutex (inr all) mutex = all (raise_of l.serial (Mutex hold.Poisoned))
 
       told : (given : Answer) → Kept P kinds l.serial (on_duties.wake_told (record { maker = maker; owed = Wake object false }) object false given l)
-      told (answer.Woke who) = telling P kinds l.serial _ (none P) (none P) (stays_stands P l.serial (record { maker = maker; owed = Wake object false }) l fits h)
-      told other = telling P kinds l.serial _ (none P) (none P) h
+      told (answer.Woke who) = telling P kinds l.serial _ refl (none P) (none P) (stays_stands P l.serial (record { maker = maker; owed = Wake object false }) l fits h)
+      told other = telling P kinds l.serial _ refl (none P) (none P) h
 
   -- of those that wait for a poisoned mutex, of whom each has a raise of its own
 
@@ -228,16 +235,16 @@ module _ (P : Member → Type 0) (kinds : ℕ → Bool) (script : Script) (m : M
   abbrev mutex_told : (maker object : ℕ) → Answer → Step
   mutex_told maker object given = on_duties.wake_told (record { maker = maker; owed = Wake object true }) object true given l
 
-  wake_is : (maker object : ℕ) → Shares P m.shared → StepIs P (λ x. Unit {0}) (With P (Some (member Poisoned l))) (is_mutex (row_at m.shared.rows object).values) (wake_step maker object)
+  wake_is : (maker object : ℕ) → Shares P m.shared → StepIs P (λ raised. Unit {0}) (With P (Some (member Poisoned l))) (is_mutex (row_at m.shared.rows object).values) (wake_step maker object)
   wake_is maker object shares =
-      called_is P (λ x. Unit {0}) (With P (Some (member Poisoned l))) (row_at m.shared.rows object) (wait_of l maker) (is_some (off_for l maker)) l.serial (call.NextWake object)
+      called_is P (λ raised. Unit {0}) (With P (Some (member Poisoned l))) (row_at m.shared.rows object) (wait_of l maker) (is_some (off_for l maker)) l.serial (call.NextWake object)
       (duty_finds (With P (Some (member Poisoned l))) object (call.NextWake object) (λ x i. i) refl (λ x i. inl i) (λ wake kind. inr refl) shares)
 
   somebody_woken : (stamp maker object : ℕ) (who : Waiter) → Stands P kinds l.serial l → Shares P m.shared
-      → Ends (moved_by m stamp (came_of stamp (asked_of maker object (call.NextWake object))) (with_message script (mine_at stamp maker object (call.NextWake object)) (mutex_told maker object (answer.Woke who))))
+      → Ends (moved_by m stamp before (came_of stamp (asked_of maker object (call.NextWake object))) (with_message script (mine_at stamp maker object (call.NextWake object)) (mutex_told maker object (answer.Woke who))))
   somebody_woken stamp maker object who h shares =
       let x : Member = member Poisoned l in
-      let is : StepIs P (λ x. Unit {0}) (With P (Some x)) (is_mutex (row_at m.shared.rows object).values) (wake_step maker object) = wake_is maker object shares in
+      let is : StepIs P (λ raised. Unit {0}) (With P (Some x)) (is_mutex (row_at m.shared.rows object).values) (wake_step maker object) = wake_is maker object shares in
       call_ends stamp (asked_of maker object (call.NextWake object)) (mutex_told maker object (answer.Woke who))
       (record {
         born = Some x;
@@ -249,24 +256,24 @@ module _ (P : Member → Type 0) (kinds : ℕ → Bool) (script : Script) (m : M
       })
       is.values is.same_kind is.sent shares
 
-  nobody_woken : (stamp maker object : ℕ) (given : Answer) → AllDid P (mutex_told maker object given).did → AllReply P (mutex_told maker object given).reply → Stands P kinds l.serial (mutex_told maker object given).state → (wake_step maker object).sent ≡ None → Shares P m.shared
-      → Ends (moved_by m stamp (came_of stamp (asked_of maker object (call.NextWake object))) (with_message script (mine_at stamp maker object (call.NextWake object)) (mutex_told maker object given)))
-  nobody_woken stamp maker object given told reply h silent shares =
-      let is : StepIs P (λ x. Unit {0}) (With P (Some (member Poisoned l))) (is_mutex (row_at m.shared.rows object).values) (wake_step maker object) = wake_is maker object shares in
-      call_ends stamp (asked_of maker object (call.NextWake object)) (mutex_told maker object given) (record { born = None; to = l.serial; range = omega arith; stands = h; call = told; reply = reply })
+  nobody_woken : (stamp maker object : ℕ) (given : Answer) → (mutex_told maker object given).raises ≡ [] → AllDid P (mutex_told maker object given).did → AllReply P (mutex_told maker object given).reply → Stands P kinds l.serial (mutex_told maker object given).state → (wake_step maker object).sent ≡ None → Shares P m.shared
+      → Ends (moved_by m stamp before (came_of stamp (asked_of maker object (call.NextWake object))) (with_message script (mine_at stamp maker object (call.NextWake object)) (mutex_told maker object given)))
+  nobody_woken stamp maker object given quiet told reply h silent shares =
+      let is : StepIs P (λ raised. Unit {0}) (With P (Some (member Poisoned l))) (is_mutex (row_at m.shared.rows object).values) (wake_step maker object) = wake_is maker object shares in
+      call_ends stamp (asked_of maker object (call.NextWake object)) (mutex_told maker object given) (record { born = None; to = l.serial; range = (subst (λ raises. AreNumbered l.serial raises l.serial) (sym quiet) refl, tt); stands = h; call = told; reply = reply })
       is.values is.same_kind (silent_sends P (wake_step maker object).sent silent) shares
 
   mutex_wake_ends : (stamp maker object : ℕ) → Stands P kinds l.serial l → Shares P m.shared → (given : Answer) → (is_woken given ≡ false → (wake_step maker object).sent ≡ None)
-      → Ends (moved_by m stamp (came_of stamp (asked_of maker object (call.NextWake object))) (with_message script (mine_at stamp maker object (call.NextWake object)) (mutex_told maker object given)))
+      → Ends (moved_by m stamp before (came_of stamp (asked_of maker object (call.NextWake object))) (with_message script (mine_at stamp maker object (call.NextWake object)) (mutex_told maker object given)))
   mutex_wake_ends stamp maker object h shares (answer.Woke who) silent = somebody_woken stamp maker object who h shares
-  mutex_wake_ends stamp maker object h shares given silent = nobody_woken stamp maker object given (none P) (none P) h (silent refl) shares
+  mutex_wake_ends stamp maker object h shares given silent = nobody_woken stamp maker object given refl (none P) (none P) h (silent refl) shares
 
   start_ends : (stamp maker executor : ℕ) → Stands P kinds l.serial l → Shares P m.shared → (given : Answer)
-      → Ends (moved_by m stamp (came_of stamp (asked_of maker executor (call.NextStart executor)))
+      → Ends (moved_by m stamp before (came_of stamp (asked_of maker executor (call.NextStart executor)))
       (with_message script (mine_at stamp maker executor (call.NextStart executor)) (on_duties.start_told (record { maker = maker; owed = Start executor }) executor given l)))
   start_ends stamp maker executor h shares given =
-      let is : StepIs P (λ x. Unit {0}) P (is_mutex (row_at m.shared.rows executor).values) (step_at maker executor (call.NextStart executor)) =
-      called_is P (λ x. Unit {0}) P (row_at m.shared.rows executor) (wait_of l maker) (is_some (off_for l maker)) l.serial (call.NextStart executor)
+      let is : StepIs P (λ raised. Unit {0}) P (is_mutex (row_at m.shared.rows executor).values) (step_at maker executor (call.NextStart executor)) =
+      called_is P (λ raised. Unit {0}) P (row_at m.shared.rows executor) (wait_of l maker) (is_some (off_for l maker)) l.serial (call.NextStart executor)
       (duty_finds P executor (call.NextStart executor) (λ x i. i) refl (λ x i. i) (λ wake kind. absurd (true≢false (sym wake))) shares)
       in
       let kept : Kept P kinds l.serial (on_duties.start_told (record { maker = maker; owed = Start executor }) executor given l) = told given in
@@ -274,8 +281,8 @@ module _ (P : Member → Type 0) (kinds : ℕ → Bool) (script : Script) (m : M
       (sends_more kept.born (step_at maker executor (call.NextStart executor)).sent is.sent) shares
     where
       told : (given : Answer) → Kept P kinds l.serial (on_duties.start_told (record { maker = maker; owed = Start executor }) executor given l)
-      told (answer.Started domain number) = telling P kinds l.serial _ (none P) (none P) (stays_stands P l.serial (record { maker = maker; owed = Start executor }) l tt h)
-      told other = telling P kinds l.serial _ (none P) (none P) h
+      told (answer.Started domain number) = telling P kinds l.serial _ refl (none P) (none P) (stays_stands P l.serial (record { maker = maker; owed = Start executor }) l tt h)
+      told other = telling P kinds l.serial _ refl (none P) (none P) h
 
   -- ## The whole move
 
@@ -292,19 +299,19 @@ module _ (P : Member → Type 0) (kinds : ℕ → Bool) (script : Script) (m : M
   EndsIf (Some moved) = Ends moved
 
   abbrev moved_if : Prepared → Asks → Option Moved
-  moved_if it asks = elim (comes m (m.local.stamp + 1) asks) [ None ↦ None | Some came ↦ Some (moved_by m (m.local.stamp + 1) came (stepped_by script it came.label m.local)) ]
+  moved_if it asks = elim (comes m (m.local.stamp + 1) asks) [ None ↦ None | Some came ↦ Some (moved_by m (m.local.stamp + 1) it.raises came (stepped_by script it came.label m.local)) ]
 
   abbrev strike_of : (maker g : ℕ) → Prepared
-  strike_of maker g = record { doing = doing.Owes (record { maker = maker; owed = Strike g }); state = l }
+  strike_of maker g = record { doing = doing.Owes (record { maker = maker; owed = Strike g }); state = l; raises = before }
 
   own_strike_ends : (maker g : ℕ) → Stands P kinds l.serial l → Shares P m.shared → EndsIf (moved_if (strike_of maker g) Own)
-  own_strike_ends maker g h shares = ends_alone (m.local.stamp + 1) own_came _ refl (own_strike_kept P kinds l.serial (record { maker = maker; owed = Strike g }) g (fiber_at l.fibers g).standing l h) shares
+  own_strike_ends maker g h shares = ends_alone (m.local.stamp + 1) own_came _ refl refl (own_strike_kept P kinds l.serial (record { maker = maker; owed = Strike g }) g (fiber_at l.fibers g).standing l h) shares
 
   strike_ends : (maker g : ℕ) (standing : Standing) → Stands P kinds l.serial l → Shares P m.shared → EndsIf (moved_if (strike_of maker g) (asking.strike_on standing))
   strike_ends maker g (Parked (OnObject who)) h shares =
       let won : Bool = strike_wins m.shared who in
       let kept : Kept P kinds l.serial (on_duties.strike_told (record { maker = maker; owed = Strike g }) g won l) = strike_kept P kinds l.serial (record { maker = maker; owed = Strike g }) g won l h in
-      ends_with (m.local.stamp + 1) (record { label = Struck who won; shared = after_strike m.shared who won; world = m.world }) _ kept
+      ends_with (m.local.stamp + 1) (record { label = Struck who won; shared = after_strike m.shared who won; world = m.world }) _ refl kept
       (strike_shares (With P kept.born) m.shared who won (shares_more P kept.born m.shared shares)) (strike_kinds m.shared who won)
   strike_ends maker g (Parked Asleep) h shares = own_strike_ends maker g h shares
   strike_ends maker g (Parked ForCancel) h shares = own_strike_ends maker g h shares
@@ -314,7 +321,7 @@ module _ (P : Member → Type 0) (kinds : ℕ → Bool) (script : Script) (m : M
   strike_ends maker g (Ended result) h shares = own_strike_ends maker g h shares
 
   owed_ends : (maker : ℕ) (owed : Owed) → DutyFits P kinds l.serial (record { maker = maker; owed = owed }) → Agrees → Stands P kinds l.serial l → Shares P m.shared
-      → EndsIf (move_by script m (record { doing = doing.Owes (record { maker = maker; owed = owed }); state = l }))
+      → EndsIf (move_by script m (record { doing = doing.Owes (record { maker = maker; owed = owed }); state = l; raises = before }))
   owed_ends maker (Strike g) fits agrees h shares = strike_ends maker g (fiber_at l.fibers g).standing h shares
   owed_ends maker (Wake object false) fits agrees h shares = promise_wake_ends (m.local.stamp + 1) maker object fits agrees h shares (wake_step maker object).answer
   owed_ends maker (Wake object true) fits agrees h shares =
@@ -322,30 +329,30 @@ module _ (P : Member → Type 0) (kinds : ℕ → Bool) (script : Script) (m : M
       (wakes_or_is_silent (row_at m.shared.rows object).values (row_at m.shared.rows object).takers (row_at m.shared.rows object).adders (wait_of l maker) (is_some (off_for l maker)) l.serial object)
   owed_ends maker (Start executor) fits agrees h shares = by (asking.is_full_for_one l)
     where
-      by : (full : Bool) → EndsIf (moved_if (record { doing = doing.Owes (record { maker = maker; owed = Start executor }); state = l }) (elim full [ true ↦ Own | false ↦ asking.calls l maker executor (call.NextStart executor) ]))
-      by true = ends_alone (m.local.stamp + 1) own_came (on_duties.own_duty (record { maker = maker; owed = Start executor }) l) refl (telling P kinds l.serial (on_duties.own_duty (record { maker = maker; owed = Start executor }) l) (none P) (none P) h) shares
+      by : (full : Bool) → EndsIf (moved_if (record { doing = doing.Owes (record { maker = maker; owed = Start executor }); state = l; raises = before }) (elim full [ true ↦ Own | false ↦ asking.calls l maker executor (call.NextStart executor) ]))
+      by true = ends_alone (m.local.stamp + 1) own_came (on_duties.own_duty (record { maker = maker; owed = Start executor }) l) refl refl (telling P kinds l.serial (on_duties.own_duty (record { maker = maker; owed = Start executor }) l) refl (none P) (none P) h) shares
       by false = start_ends (m.local.stamp + 1) maker executor h shares (step_at maker executor (call.NextStart executor)).answer
 
-  fiber_ends : (asked : Ask) (g : ℕ) → AllCall P asked → KindsAre → Stands P kinds l.serial l → Shares P m.shared → EndsIf (move_by script m (record { doing = doing.Calls g asked; state = l }))
+  fiber_ends : (asked : Ask) (g : ℕ) → AllCall P asked → KindsAre → Stands P kinds l.serial l → Shares P m.shared → EndsIf (move_by script m (record { doing = doing.Calls g asked; state = l; raises = before }))
   fiber_ends asked g all are h shares = by (asking.asks_for asked g l) (fiber_asks asked g l)
     where
-      by : (asks : Asks) → AskedBy asked g l asks → EndsIf (moved_if (record { doing = doing.Calls g asked; state = l }) asks)
-      by asks (AsksNothing is) = subst (λ a. EndsIf (moved_if (record { doing = doing.Calls g asked; state = l }) a)) (sym is) (ends_alone (m.local.stamp + 1) own_came _ refl (own_call_kept P kinds l.serial script asked g l all h) shares)
+      by : (asks : Asks) → AskedBy asked g l asks → EndsIf (moved_if (record { doing = doing.Calls g asked; state = l; raises = before }) asks)
+      by asks (AsksNothing is) = subst (λ a. EndsIf (moved_if (record { doing = doing.Calls g asked; state = l; raises = before }) a)) (sym is) (ends_alone (m.local.stamp + 1) own_came _ refl refl (own_call_kept P kinds l.serial script asked g l all h) shares)
       by asks (AsksObject object it is on) =
-          subst (λ a. EndsIf (moved_if (record { doing = doing.Calls g asked; state = l }) a)) (sym is) (fiber_call_ends (m.local.stamp + 1) asked g object it on are all h shares)
+          subst (λ a. EndsIf (moved_if (record { doing = doing.Calls g asked; state = l; raises = before }) a)) (sym is) (fiber_call_ends (m.local.stamp + 1) asked g object it on are all h shares)
       by asks (AsksOutside it is) =
           let step : OutsideStep = outside m.world l.texts l.serial it in
-          subst (λ a. EndsIf (moved_if (record { doing = doing.Calls g asked; state = l }) a)) (sym is)
-          (ends_alone (m.local.stamp + 1) (mock_came it) _ refl (mock_answered_kept P kinds l.serial asked step.answer g (record l { texts = step.texts }) all (outside_is m.world l.texts l.serial it) h) shares)
+          subst (λ a. EndsIf (moved_if (record { doing = doing.Calls g asked; state = l; raises = before }) a)) (sym is)
+          (ends_alone (m.local.stamp + 1) (mock_came it) _ refl refl (mock_answered_kept P kinds l.serial asked step.answer g (record l { texts = step.texts }) all (outside_is m.world l.texts l.serial it) h) shares)
 
-  pub doing_ends : (d : Doing) → DoingIs P kinds l.serial None d → KindsAre → Agrees → Stands P kinds l.serial l → Shares P m.shared → EndsIf (move_by script m (record { doing = d; state = l }))
+  pub doing_ends : (d : Doing) → DoingIs P kinds l.serial None d → KindsAre → Agrees → Stands P kinds l.serial l → Shares P m.shared → EndsIf (move_by script m (record { doing = d; state = l; raises = before }))
   doing_ends doing.Rests is are agrees h shares = tt
   doing_ends (doing.Owes duty) is are agrees h shares = owed_ends duty.maker duty.owed is agrees h shares
   doing_ends (doing.Calls g asked) is are agrees h shares = fiber_ends asked g is are h shares
   doing_ends (doing.Carries g writer) is are agrees h shares =
       let step : OutsideStep = outside m.world l.texts l.serial (mock.Carry writer) in
-      ends_alone (m.local.stamp + 1) (mock_came (mock.Carry writer)) _ refl (carried_kept P kinds l.serial writer step.answer g (record l { texts = step.texts }) h) shares
-  doing_ends doing.Ticks is are agrees h shares = ends_alone (m.local.stamp + 1) own_came _ refl (tick_kept P kinds l.serial l h) shares
+      ends_alone (m.local.stamp + 1) (mock_came (mock.Carry writer)) _ refl refl (carried_kept P kinds l.serial writer step.answer g (record l { texts = step.texts }) h) shares
+  doing_ends doing.Ticks is are agrees h shares = ends_alone (m.local.stamp + 1) own_came _ refl refl (tick_kept P kinds l.serial l h) shares
 
 -- ## Both parts
 
@@ -355,8 +362,11 @@ module _ (P : Member → Type 0) (kinds : ℕ → Bool) (script : Script) (m : M
     pub first : Option Member
     pub second : Option Member
     pub middle : ℕ
-    pub first_range : Born m.local.serial middle first
-    pub second_range : Born middle moved.next.local.serial second
+    pub before : List Member
+    pub behind : List Member
+    pub all : moved.raises ≡ before ++ behind
+    pub first_range : BornIn m.local.serial before middle first
+    pub second_range : BornIn middle behind moved.next.local.serial second
     pub stands : Stands (With (With P first) second) kinds moved.next.local.serial moved.next.local
     pub shares : Shares (With (With P first) second) moved.next.shared
     pub call : AllDid (With (With P first) second) moved.line.did
@@ -374,12 +384,15 @@ module _ (P : Member → Type 0) (kinds : ℕ → Bool) (script : Script) (m : M
   doing_is born from to (doing.Carries g writer) is = tt
   doing_is born from to doing.Ticks is = tt
 
-  both_parts : (it : Prepared) (prepares : Prepares P kinds m.local.serial it) (next : Option Moved) → EndsIf (With P prepares.born) kinds script m it.state next → RaisesIf next
+  both_parts : (it : Prepared) (prepares : Prepares P kinds m.local.serial it) (next : Option Moved) → EndsIf (With P prepares.born) kinds script m it.state it.raises next → RaisesIf next
   both_parts it prepares None ends = tt
   both_parts it prepares (Some moved) ends = record {
     first = prepares.born;
     second = ends.born;
     middle = it.state.serial;
+    before = it.raises;
+    behind = ends.raises;
+    all = ends.all;
     first_range = prepares.range;
     second_range = ends.range;
     stands = ends.stands;
@@ -389,17 +402,17 @@ module _ (P : Member → Type 0) (kinds : ℕ → Bool) (script : Script) (m : M
     same_kinds = ends.same_kinds;
   }
 
-  prepared_raises : (it : Prepared) → Prepares P kinds m.local.serial it → KindsAre P kinds script m it.state → Agrees P kinds script m it.state → Shares P m.shared → RaisesIf (move_by script m it)
+  prepared_raises : (it : Prepared) → Prepares P kinds m.local.serial it → KindsAre P kinds script m it.state it.raises → Agrees P kinds script m it.state it.raises → Shares P m.shared → RaisesIf (move_by script m it)
   prepared_raises it prepares are agrees shares =
       both_parts it prepares (move_by script m it)
-      (doing_ends (With P prepares.born) kinds script m it.state it.doing (doing_is prepares.born m.local.serial it.state.serial it.doing prepares.doing) are
+      (doing_ends (With P prepares.born) kinds script m it.state it.raises it.doing (doing_is prepares.born m.local.serial it.state.serial it.doing prepares.doing) are
       (λ object fits. agree_more (agrees object fits)) prepares.stands (shares_more P prepares.born m.shared shares))
     where
       agree_more : {X : Type 0} → X ⊎ ((x : Member) → P x) → X ⊎ ((x : Member) → With P prepares.born x)
       agree_more (inl is) = inl is
       agree_more (inr all) = inr (λ x. more P prepares.born x (all x))
 
-  pub move_raises : KindsAre P kinds script m m.local → Agrees P kinds script m m.local → Stands P kinds m.local.serial m.local → Shares P m.shared → (moved : Moved) → move script m ≡ Some moved → Raises moved
+  pub move_raises : KindsAre P kinds script m m.local [] → Agrees P kinds script m m.local [] → Stands P kinds m.local.serial m.local → Shares P m.shared → (moved : Moved) → move script m ≡ Some moved → Raises moved
   unfolding move
   move_raises are agrees h shares moved is = subst RaisesIf is (by m.local.halted)
     where

@@ -1,7 +1,7 @@
 -- A domain's own moves: each raises at most one exception, with the counter's number, which then rises.
-use Rattle.std.proofs.Common.{ℕ, ◌+◌, ◌-◌, ◌&&◌, inl, inr, Bool, true, false, List, [], ◌∷◌, ◌++◌, length, Option, Some, None, refl, ap, arith, zero, suc}
+use Rattle.std.proofs.Common.{◌≡◌, ℕ, ◌+◌, ◌-◌, ◌&&◌, inl, inr, Bool, true, false, List, [], ◌∷◌, ◌++◌, length, Option, Some, None, refl, sym, ap, subst, zero, suc}
 use Rattle.std.specs.Prelude.{ℤ, pos, ◌+ℤ◌, int_lt, filter, not, unwrap_or}
-use Rattle.std.proofs.lemmas.List.Elements.{All-append}
+use Rattle.std.proofs.lemmas.List.Elements.{All-append, Contains-push}
 use Rattle.eio_value.specs.declared.plain.Member.{Member}
 use Rattle.eio_value.specs.declared.plain.Misuse.TheVariants.{SwitchFinished, ContextFinished, Overflow}
 use Rattle.eio_value.specs.declared.plain.Plain.{Plain}
@@ -39,8 +39,9 @@ use Rattle.machine_model.specs.SwitchMoves as on_switches
 use Rattle.machine_model.specs.GroupMoves as on_groups
 use Rattle.machine_model.specs.ClockMoves as on_clock
 use Rattle.machine_model.specs.Moves.{own_call}
+use Rattle.run_laws.specs.Serials.{AreNumbered}
 use Rattle.run_laws.proofs.Places.{AllDid, AllReply, all_but, AllOutcome, AllErrors, AllResult, AllCall, AllWait, none, all_one, all_cancelled}
-use Rattle.run_laws.proofs.Settling.{Born, With}
+use Rattle.run_laws.proofs.Settling.{BornIn, With}
 use Rattle.run_laws.proofs.Standings.{FiberIs, SwitchIs, GroupIs, Stands, head_stands, back_stands, parked_stands, placed_stands, moved_stands, made_stands, leaves_stands, cancels_stands, switch_is, with_switch_stands, fails_stands, attached_is, CloseIs, ClosedIs, close_step_is, group_is, with_group_stands, branch_ended_stands, JoinIs, JoinedIs, joined_is, ends_stands, all_single}
 
 -- what held before holds beside one more
@@ -62,14 +63,14 @@ module _ (P : Member → Type 0) (kinds : ℕ → Bool) (s : ℕ) where
   pub record Kept (step : Step) : Type 0 where
     pub born : Option Member
     pub to : ℕ
-    pub range : Born s to born
+    pub range : BornIn s step.raises to born
     pub stands : Stands (With P born) kinds to step.state
     pub call : AllDid (With P born) step.did
     pub reply : AllReply (With P born) step.reply
 
   -- nothing is raised, and the line tells what stood there
-  pub telling : (step : Step) → AllDid P step.did → AllReply P step.reply → Stands P kinds s step.state → Kept step
-  telling step call reply h = record { born = None; to = s; range = omega arith; stands = h; call = call; reply = reply }
+  pub telling : (step : Step) → step.raises ≡ [] → AllDid P step.did → AllReply P step.reply → Stands P kinds s step.state → Kept step
+  telling step none call reply h = record { born = None; to = s; range = (subst (λ raises. AreNumbered s raises s) (sym none) refl, tt); stands = h; call = call; reply = reply }
 
   pub reply_is : (result : Outcome) → AllOutcome P result → AllReply P (steps.reply_of result)
   reply_is (outcome.Ok it) all = none P
@@ -79,8 +80,8 @@ module _ (P : Member → Type 0) (kinds : ℕ → Bool) (s : ℕ) where
   counted_stands l h = (ap (λ n. n + 1) h.0, h.1, h.2, h.3, h.4)
 
   -- the new exception that a domain raises next
-  pub is_born : (what : Plain) (l : DomainState) → Stands P kinds s l → Born s (s + 1) (Some (member what l))
-  is_born what l h = (omega (arith, h.0), omega (arith, h.0))
+  pub is_born : (what : Plain) (l : DomainState) → Stands P kinds s l → BornIn s (member what l ∷ []) (s + 1) (Some (member what l))
+  is_born what l h = ((h.0, refl), Contains-push [] (member what l))
 
   pub new_stands : (what : Plain) (l : DomainState) → Stands P kinds s l → Stands (With P (Some (member what l))) kinds (s + 1) (counted l)
   new_stands what l h = (ap (λ n. n + 1) h.0, (stands_more P kinds s (Some (member what l)) l h).1, (stands_more P kinds s (Some (member what l)) l h).2, (stands_more P kinds s (Some (member what l)) l h).3, (stands_more P kinds s (Some (member what l)) l h).4)
@@ -108,27 +109,27 @@ module _ (P : Member → Type 0) (kinds : ℕ → Bool) (s : ℕ) where
   }
 
   pub answers_kept : (it : Did) → AllDid P it → (result : Outcome) (g : ℕ) (l : DomainState) → AllOutcome P result → Stands P kinds s l → Kept (steps.answers it result g l)
-  answers_kept it call result g l all h = telling _ call (reply_is result all) (head_stands P kinds s (GoesOn result) g l all h)
+  answers_kept it call result g l all h = telling _ refl call (reply_is result all) (head_stands P kinds s (GoesOn result) g l all h)
 
   pub does_kept : (it : Did) → AllDid P it → (g : ℕ) (l : DomainState) → Stands P kinds s l → Kept (steps.does it g l)
   does_kept it call g l h = answers_kept it call (outcome.Ok value.Unit) g l (none P) h
 
   pub goes_off_kept : (it : Did) → AllDid P it → (g : ℕ) (l : DomainState) → Stands P kinds s l → Kept (steps.goes_off it g l)
-  goes_off_kept it call g l h = telling _ call (none P) (back_stands P kinds s FindsOff g l (none P) h)
+  goes_off_kept it call g l h = telling _ refl call (none P) (back_stands P kinds s FindsOff g l (none P) h)
 
   pub waits_kept : (it : Did) → AllDid P it → (wait : Wait) (g : ℕ) (l : DomainState) → AllWait P wait → Stands P kinds s l → Kept (steps.waits it wait g l)
-  waits_kept it call wait g l all h = telling _ call (none P) (parked_stands P kinds s wait g l all h)
+  waits_kept it call wait g l all h = telling _ refl call (none P) (parked_stands P kinds s wait g l all h)
 
   pub enters_stands : (position : Position) (g : ℕ) (l : DomainState) → Stands P kinds s l → Stands P kinds s (to_head (GoesOn (outcome.Ok value.Unit)) g (placed position g l))
   enters_stands position g l h = head_stands P kinds s (GoesOn (outcome.Ok value.Unit)) g (placed position g l) (none P) (placed_stands P kinds s position g l h)
 
   pub enters_kept : (it : Did) (reply : Said2) → AllDid P it → AllReply P reply → (context : ℕ) (position : Position) (g : ℕ) (l : DomainState) → Stands P kinds s l → Kept (on_contexts.enters_context it reply context position g l)
-  enters_kept it reply call tells context position g l h = telling _ call tells (enters_stands position g (moved_to context g l) (moved_stands P kinds s context g l h))
+  enters_kept it reply call tells context position g l h = telling _ refl call tells (enters_stands position g (moved_to context g l) (moved_stands P kinds s context g l h))
 
   pub in_new_kept : (number : Option ℕ) (all : List contexts.Context) (g : ℕ) (l : DomainState) (then : ℕ → DomainState → Step) → Stands P kinds s l
       → ((c : ℕ) (m : DomainState) → Stands P kinds s m → Kept (then c m))
       → Kept (steps.in_new (record { number = number; contexts = all }) g l then)
-  in_new_kept None all g l then h kept = telling _ (none P) (none P) h
+  in_new_kept None all g l then h kept = telling _ refl (none P) (none P) h
   in_new_kept (Some c) all g l then h kept = kept c _ h
 
   if_kept : (b : Bool) (one other : Step) → Kept one → Kept other → Kept (elim b as (λ _. Step) [ true ↦ one | false ↦ other ])
@@ -151,7 +152,7 @@ module _ (P : Member → Type 0) (kinds : ℕ → Bool) (s : ℕ) where
 
   left_kept : (c : ℕ) (late : Bool) (it : Outcome) (g : ℕ) (l : DomainState) → AllOutcome P it → Stands P kinds s l → Kept (on_contexts.left_with c late it g l)
   left_kept c true (outcome.Ok it) g l all h = raises_kept _ (none P) (Invalid SwitchFinished) g l h
-  left_kept c false (outcome.Ok it) g l all h = telling _ (none P) (none P) (head_stands P kinds s (GoesOn (outcome.Ok it)) g l all h)
+  left_kept c false (outcome.Ok it) g l all h = telling _ refl (none P) (none P) (head_stands P kinds s (GoesOn (outcome.Ok it)) g l all h)
   left_kept c true (outcome.Err raised) g l all h = answers_kept _ (none P) (outcome.Err raised) g l all h
   left_kept c false (outcome.Err raised) g l all h = answers_kept _ (none P) (outcome.Err raised) g l all h
 
@@ -188,12 +189,12 @@ module _ (P : Member → Type 0) (kinds : ℕ → Bool) (s : ℕ) where
       let k : Stands P kinds s t = made_stands P kinds s _ _ _ l h in
       let u : DomainState = on_switches.with_switch_at n (switches.attach new (on_switches.is_daemon forking) switch).switch t in
       let m : Stands P kinds s u = with_switch_stands P kinds s n _ t (attached_is P kinds s new (on_switches.is_daemon forking) switch (switch_is P kinds s n l h)) k in
-      telling _ (fork_is forking n) (none P) (head_stands P kinds s (GoesOn (outcome.Ok value.Unit)) new (to_head (GoesOn (outcome.Ok value.Unit)) g u) (none P) (head_stands P kinds s (GoesOn (outcome.Ok value.Unit)) g u (none P) m))
+      telling _ refl (fork_is forking n) (none P) (head_stands P kinds s (GoesOn (outcome.Ok value.Unit)) new (to_head (GoesOn (outcome.Ok value.Unit)) g u) (none P) (head_stands P kinds s (GoesOn (outcome.Ok value.Unit)) g u (none P) m))
 
   fork_kept : (forking : Forking) (n : ℕ) (block : Block) (g : ℕ) (l : DomainState) → Stands P kinds s l → Kept (on_switches.fork forking n block g l)
   fork_kept forking n block g l h =
-      if_kept (switches.refuses_forks l.contexts (switches.switch_at l.switches n)) _ _ (telling _ (fork_is forking n) (none P) (head_stands P kinds s (GoesOn (outcome.Ok value.Unit)) g l (none P) h))
-      (if_kept (is_full_by 1 l.fibers) _ _ (telling _ (none P) (none P) h) (makes_kept forking n block g l h))
+      if_kept (switches.refuses_forks l.contexts (switches.switch_at l.switches n)) _ _ (telling _ refl (fork_is forking n) (none P) (head_stands P kinds s (GoesOn (outcome.Ok value.Unit)) g l (none P) h))
+      (if_kept (is_full_by 1 l.fibers) _ _ (telling _ refl (none P) (none P) h) (makes_kept forking n block g l h))
 
   fail_kept : (n : ℕ) (text : TextId) (g : ℕ) (l : DomainState) → Stands P kinds s l → Kept (on_switches.fail n text g l)
   fail_kept n text g l h =
@@ -245,7 +246,7 @@ module _ (P : Member → Type 0) (kinds : ℕ → Bool) (s : ℕ) where
       let k : Stands P kinds s t = fails_with_stands g n came l all h in
       let closed : Closed = switches.close_step g (switches.switch_at t.switches n) in
       let is : ClosedIs P kinds s closed = close_step_is P kinds s g (switches.switch_at t.switches n) (switch_is P kinds s n t k) in
-      if_kept (switches.runs_handler (switches.switch_at l.switches n) && contexts.is_full l.contexts) _ _ (telling _ (none P) (none P) h)
+      if_kept (switches.runs_handler (switches.switch_at l.switches n) && contexts.is_full l.contexts) _ _ (telling _ refl (none P) (none P) h)
       (closed_kept script (ask.Close n came kept) n closed.switch.context kept closed.step g (on_switches.with_switch_at n closed.switch t) (none P) is.0 (with_switch_stands P kinds s n closed.switch t is.1 k))
 
   -- ## Groups
@@ -268,7 +269,7 @@ module _ (P : Member → Type 0) (kinds : ℕ → Bool) (s : ℕ) where
   branches_kept : (call : Ask) (kind : syntax.Group) (blocks : List Block) (g : ℕ) (l : DomainState) → Stands P kinds s l → Kept (on_groups.branches call kind blocks g l)
   branches_kept call kind blocks g l h =
       if_off_kept (off_for l g) _ _ (λ why. raises_cancelled_kept _ (branch_is kind (on_contexts.context_of l g)) why g l h)
-      (if_kept (is_full_by (length blocks - 1) l.fibers) _ _ (telling _ (none P) (none P) h)
+      (if_kept (is_full_by (length blocks - 1) l.fibers) _ _ (telling _ refl (none P) (none P) h)
       (in_new_kept (on_contexts.sub_of l g).number (on_contexts.sub_of l g).contexts g l (λ c m. on_groups.branches_in call kind blocks c g m) h
       (λ c m k.
       let it : groups.Group = groups.gathered (on_groups.kind_of kind) c (length blocks) in
@@ -276,7 +277,7 @@ module _ (P : Member → Type 0) (kinds : ℕ → Bool) (s : ℕ) where
       let with_it : Stands P kinds s u = (k.0, k.1, k.2, k.3, All-append (GroupIs P kinds s) m.groups (it ∷ []) k.4 (all_single (GroupIs P kinds s) it (none P))) in
       let t : DomainState = on_groups.branched c (length m.groups) (fiber_at m.fibers g).variables (other_branches blocks) u in
       let made_all : Stands P kinds s t = branched_stands c (length m.groups) (fiber_at m.fibers g).variables (other_branches blocks) u with_it in
-      telling _ (branch_is kind c) (first_is m.number (length m.fibers) (length (other_branches blocks))) (enters_stands (on_contexts.before_block call (length m.groups) g t) g (moved_to c g t) (moved_stands P kinds s c g t made_all)))))
+      telling _ refl (branch_is kind c) (first_is m.number (length m.fibers) (length (other_branches blocks))) (enters_stands (on_contexts.before_block call (length m.groups) g t) g (moved_to c g t) (moved_stands P kinds s c g t made_all)))))
 
   own_ended_stands : (n : ℕ) (own : Option Outcome) (g : ℕ) (l : DomainState) → AllResult P own → Stands P kinds s l → Stands P kinds s (on_groups.own_ended n own g l)
   own_ended_stands n None g l all h = h
@@ -299,7 +300,7 @@ module _ (P : Member → Type 0) (kinds : ℕ → Bool) (s : ℕ) where
 
   sleep_kept : (time : ℤ) (g : ℕ) (l : DomainState) → Stands P kinds s l → Kept (on_clock.sleep time g l)
   sleep_kept time g l h =
-      if_kept (int_lt time (pos 1)) _ _ (telling _ (none P) (none P) (back_stands P kinds s LooksUp g l (none P) h))
+      if_kept (int_lt time (pos 1)) _ _ (telling _ refl (none P) (none P) (back_stands P kinds s LooksUp g l (none P) h))
       (if_kept (is_within (l.now +ℤ time)) _ _
       (if_off_kept (off_for l g) _ _ (λ why. goes_off_kept _ (none P) g l h) (waits_kept _ (none P) Asleep g _ (none P) h))
       (raises_kept _ (none P) (Invalid Overflow) g l h))
@@ -311,14 +312,14 @@ module _ (P : Member → Type 0) (kinds : ℕ → Bool) (s : ℕ) where
   pub tick_kept : (l : DomainState) → Stands P kinds s l → Kept (on_clock.tick l)
   tick_kept l h =
       let time = unwrap_or (earliest l.timers) l.now in
-      telling _ (none P) (none P) (wakes_stands (due_fibers time l.timers) (record l { now = time; timers = record (l.timers) { standing = filter (λ timer. not (is_due time timer)) l.timers.standing } }) h)
+      telling _ refl (none P) (none P) (wakes_stands (due_fibers time l.timers) (record l { now = time; timers = record (l.timers) { standing = filter (λ timer. not (is_due time timer)) l.timers.standing } }) h)
 
   -- ## A fiber's own call
 
   pub own_call_kept : (script : Script) (call : Ask) (g : ℕ) (l : DomainState) → AllCall P call → Stands P kinds s l → Kept (own_call script call g l)
   unfolding own_call
   own_call_kept script (ask.Trace values) g l all h = does_kept _ (none P) g l h
-  own_call_kept script ask.Yield g l all h = telling _ (none P) (none P) (back_stands P kinds s LooksUp g l (none P) h)
+  own_call_kept script ask.Yield g l all h = telling _ refl (none P) (none P) (back_stands P kinds s LooksUp g l (none P) h)
   own_call_kept script ask.Check g l all h = check_kept g l h
   own_call_kept script ask.AwaitCancel g l all h = if_off_kept (off_for l g) _ _ (λ why. goes_off_kept _ (none P) g l h) (waits_kept _ (none P) ForCancel g l (none P) h)
   own_call_kept script ask.Turn g l all h = does_kept _ (none P) g l h
@@ -335,5 +336,5 @@ module _ (P : Member → Type 0) (kinds : ℕ → Bool) (s : ℕ) where
   own_call_kept script (ask.Leave context late it) g l all h = leave_kept context late it g l all h
   own_call_kept script (ask.Close n came kept) g l all h = close_kept script n came kept g l all h
   own_call_kept script (ask.Join n own) g l all h = joins_kept n own g l all h
-  own_call_kept script (ask.End it) g l all h = telling _ (none P) (reply_is it all) (ends_stands P kinds s it g l all h)
-  own_call_kept script call g l all h = telling _ (none P) (none P) h
+  own_call_kept script (ask.End it) g l all h = telling _ refl (none P) (reply_is it all) (ends_stands P kinds s it g l all h)
+  own_call_kept script call g l all h = telling _ refl (none P) (none P) h

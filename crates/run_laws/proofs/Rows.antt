@@ -14,6 +14,8 @@ use Rattle.eio_value.specs.declared.plain.Plain.{Plain}
 use Rattle.eio_value.specs.declared.plain.Plain.TheVariants as plain
 use Rattle.eio_value.specs.declared.raised.Outcome.{Outcome}
 use Rattle.eio_value.specs.declared.raised.Outcome.TheVariants as outcome
+use Rattle.eio_value.specs.declared.raised.Raised.{Raised}
+use Rattle.eio_value.specs.declared.raised.Raised.TheVariants.{One}
 use Rattle.eio_value.specs.declared.value.Value.{Value}
 use Rattle.eio_value.specs.declared.value.Value.TheVariants as value
 use Rattle.row_model.specs.declared.hold.Hold.{Hold}
@@ -59,10 +61,10 @@ InBrought x (call.Resolve object it) = InOutcome x it
 InBrought x (call.Done object number it) = InOutcome x it
 InBrought x other = ⊥
 
--- P of what is kept, A of what is answered, H of what is handed over
-module _ (P A H : Member → Type 0) where
+-- P of what is kept, A of what is raised in an answer, H of what is handed over
+module _ (P : Member → Type 0) (A : Raised → Type 0) (H : Member → Type 0) where
   abbrev pub AllAnswer : Answer → Type 0
-  AllAnswer (answer.Raised raised) = AllRaised A raised
+  AllAnswer (answer.Raised raised) = A raised
   AllAnswer other = Unit {0}
 
   abbrev pub AllSent : Option Sent → Type 0
@@ -174,33 +176,33 @@ module _ (P A H : Member → Type 0) where
   executor_is work (call.Done object number given) brought = finish_is work number given (find (has_number number) work.running) brought
   executor_is work other brought = (value_kept, tt, refl)
 
-  answered_is : (kept : Outcome) → ((x : Member) → InOutcome x kept → A x) → AllAnswer (answer_of kept)
-  answered_is (outcome.Ok it) all = tt
-  answered_is (outcome.Err raised) all = all
+  answered_is : (kept : Outcome) → ((raised : Raised) → AllRaised P raised → A raised) → AllOutcome P kept → AllAnswer (answer_of kept)
+  answered_is (outcome.Ok it) old all = tt
+  answered_is (outcome.Err raised) old all = old raised all
 
-  promise_is : (kept : Option Outcome) (serial : ℕ) (call : Call) → (is_await call ≡ true → (x : Member) → P x → A x) → (is_await call ≡ false → A (raise_of serial (Promise kept)))
+  promise_is : (kept : Option Outcome) (serial : ℕ) (call : Call) → (is_await call ≡ true → (raised : Raised) → AllRaised P raised → A raised) → (is_await call ≡ false → A (One (raise_of serial (Promise kept))))
       → ((x : Member) → P x → H x) → AllData P (Promise kept) → ((x : Member) → InBrought x call → P x) → DoesIs false (promise_does kept serial call)
   promise_is None serial (call.Resolve object given) old new hands before brought = (brought, tt, refl)
-  promise_is (Some kept) serial (call.Resolve object given) old new hands before brought = (before, all_one A _ (new refl), refl)
+  promise_is (Some kept) serial (call.Resolve object given) old new hands before brought = (before, new refl, refl)
   promise_is None serial (call.TryResolve object given) old new hands before brought = (value_kept, tt, refl)
   promise_is (Some kept) serial (call.TryResolve object given) old new hands before brought = (before, tt, refl)
   promise_is None serial (call.Await object) old new hands before brought = (value_kept, refl)
-  promise_is (Some kept) serial (call.Await object) old new hands before brought = (before, answered_is kept (λ x i. old refl x (before x i)), refl)
+  promise_is (Some kept) serial (call.Await object) old new hands before brought = (before, answered_is kept (old refl) before, refl)
   promise_is None serial (call.NextWake object) old new hands before brought = (before, tt, refl)
   promise_is (Some kept) serial (call.NextWake object) old new hands before brought = (λ q. (before, tt, (λ x i. hands x (before x i)), refl), (before, tt, refl))
   promise_is kept serial other old new hands before brought = (before, tt, refl)
 
-  mutex_is : (state : Hold) (serial : ℕ) (call : Call) → (is_await call ≡ false → A (raise_of serial (Mutex state))) → (is_wake call ≡ true → H (raise_of serial (Mutex Poisoned)))
+  mutex_is : (state : Hold) (serial : ℕ) (call : Call) → (is_await call ≡ false → A (One (raise_of serial (Mutex state)))) → (is_wake call ≡ true → H (raise_of serial (Mutex Poisoned)))
       → DoesIs true (mutex_does state serial call)
   mutex_is Free serial (call.Lock object) new hands = (value_kept, tt, refl)
   mutex_is Held serial (call.Lock object) new hands = (value_kept, refl)
-  mutex_is Poisoned serial (call.Lock object) new hands = (value_kept, all_one A _ (new refl), refl)
+  mutex_is Poisoned serial (call.Lock object) new hands = (value_kept, new refl, refl)
   mutex_is Free serial (call.TryLock object) new hands = (value_kept, tt, refl)
   mutex_is Held serial (call.TryLock object) new hands = (value_kept, tt, refl)
-  mutex_is Poisoned serial (call.TryLock object) new hands = (value_kept, all_one A _ (new refl), refl)
-  mutex_is Free serial (call.Unlock object) new hands = (value_kept, all_one A _ (new refl), refl)
+  mutex_is Poisoned serial (call.TryLock object) new hands = (value_kept, new refl, refl)
+  mutex_is Free serial (call.Unlock object) new hands = (value_kept, new refl, refl)
   mutex_is Held serial (call.Unlock object) new hands = (λ q. (value_kept, tt, value_handed, refl), (value_kept, tt, refl))
-  mutex_is Poisoned serial (call.Unlock object) new hands = (value_kept, all_one A _ (new refl), refl)
+  mutex_is Poisoned serial (call.Unlock object) new hands = (value_kept, new refl, refl)
   mutex_is Free serial (call.NextWake object) new hands = (value_kept, tt, refl)
   mutex_is Held serial (call.NextWake object) new hands = (value_kept, tt, refl)
   mutex_is Poisoned serial (call.NextWake object) new hands = (λ q. (value_kept, tt, all_one H _ (hands refl), refl), (value_kept, tt, refl))
@@ -210,8 +212,8 @@ module _ (P A H : Member → Type 0) where
   pub record Finds (values : Data) (serial : ℕ) (call : Call) : Type 0 where
     pub kept : AllData P values
     pub brought : (x : Member) → InBrought x call → P x
-    pub awaited : is_await call ≡ true → (x : Member) → P x → A x
-    pub answered : is_await call ≡ false → A (raise_of serial values)
+    pub awaited : is_await call ≡ true → (raised : Raised) → AllRaised P raised → A raised
+    pub answered : is_await call ≡ false → A (One (raise_of serial values))
     pub handed : (x : Member) → P x → H x
     pub woken : is_wake call ≡ true → is_mutex values ≡ true → H (raise_of serial (Mutex Poisoned))
 

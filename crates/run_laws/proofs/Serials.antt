@@ -1,8 +1,8 @@
 -- The numbers of raises in runs. All that a move raises has numbers of its own, so no two raises of a run share one.
 use Rattle.std.proofs.Common.{◌≡◌, ℕ, zero, suc, ◌≤◌, ◌<◌, ◌⊎◌, inl, inr, Bool, true, false, Option, Some, None, refl, sym, ap, ◌∙◌, subst, arith, List, [], ◌∷◌, ◌++◌, ◌+◌}
 use Rattle.std.specs.Prelude.{get_or}
-use Rattle.std.specs.List.{All}
-use Rattle.std.proofs.lemmas.List.Elements.{All-map, All-contains}
+use Rattle.std.specs.List.{All, Contains}
+use Rattle.std.proofs.lemmas.List.Elements.{All-map, All-contains, Contains-append_left, Contains-append_right}
 use Rattle.eio_value.specs.declared.plain.Member.{Member}
 use Rattle.row_model.specs.Row.{Row}
 use Rattle.script_model.specs.Declarations.{Declaration}
@@ -13,24 +13,22 @@ use Rattle.machine_model.specs.Mock.{Mock, Moved, opening, most_jobs, move, move
 use Rattle.machine_model.specs.Shared.{declared_row}
 use Rattle.machine_model.specs.Trace.{last_after, run}
 use Rattle.run_laws.specs.Exceptions.{InStanding, InData, IsIn, InFiber, InSwitch, InGroup, InObject, InPost, IsTold, InItsCall, InItsReply}
-use Rattle.run_laws.specs.Serials.{SerialsRise, IsRaisedBetween, NumbersAreNotReused, RaisesAreNumbered, LinesTellNumbered, HasOwnNumbers, RaisesAreApart}
+use Rattle.run_laws.specs.Serials.{SerialsRise, AreNumbered, RaisesAreCounted, SerialsRiseByRaises, IsRaisedBy, NumbersAreNotReused, RaisesAreNumbered, LinesTellNumbered, HasOwnNumbers, RaisesAreApart}
 use Rattle.run_laws.proofs.Beginnings.{from, moves_on}
 use Rattle.run_laws.proofs.Places.{each_to_all, AllMessage}
-use Rattle.run_laws.proofs.Settling.{Born, With, born_rises}
+use Rattle.run_laws.proofs.Settling.{Born, IsListed, With, numbered_rises, numbered_append, numbered_contains, numbered_count, born_of}
 use Rattle.run_laws.proofs.Standings.{DutyFits, FiberIs, SwitchIs, GroupIs, Stands}
 use Rattle.run_laws.proofs.Sharing.{kinds_of, RowIs, Shares}
 use Rattle.run_laws.proofs.Raises.{Raises, move_raises}
 
 -- ## The counter
 
-pub serials_rise : SerialsRise
-serials_rise script m moved is =
-    let raises : Raises (λ x. Unit {0}) (λ object. false) script m moved =
+-- of any state, since nothing is asked of the exceptions that stand there
+raises_anywhere : (script : Script) (m : Mock) (moved : Moved) → move script m ≡ Some moved → Raises (λ x. Unit {0}) (λ object. false) script m moved
+raises_anywhere script m moved is =
     move_raises (λ x. Unit {0}) (λ object. false) script m (λ object same. refl) (λ object same. inr (λ x. tt))
     (refl, (λ k d below. fits (get_or m.local.duties k d).owed), (λ k d below x i. tt), (λ k d below x i. tt), (λ k d below x i. tt))
     ((λ k d below x i. tt), (λ receiver sender k d below x i. tt)) moved is
-    in
-    omega (arith, born_rises m.local.serial raises.middle raises.first raises.first_range, born_rises raises.middle moved.next.local.serial raises.second raises.second_range)
   where
     fits : (owed : Owed) → DutyFits (λ x. Unit {0}) (λ object. false) 0 (record { maker = 0; owed = owed })
     fits (Strike g) = tt
@@ -38,14 +36,26 @@ serials_rise script m moved is =
     fits (Wake object false) = refl
     fits (Start executor) = tt
 
+pub raises_are_counted : RaisesAreCounted
+raises_are_counted script m moved is =
+    let raises : Raises (λ x. Unit {0}) (λ object. false) script m moved = raises_anywhere script m moved is in
+    subst (λ all. AreNumbered m.local.serial all moved.next.local.serial) (sym raises.all)
+    (numbered_append m.local.serial raises.before raises.middle raises.behind moved.next.local.serial raises.first_range.0 raises.second_range.0)
+
+pub serials_rise_by_raises : SerialsRiseByRaises
+serials_rise_by_raises script m moved is = numbered_count m.local.serial moved.raises moved.next.local.serial (raises_are_counted script m moved is)
+
+pub serials_rise : SerialsRise
+serials_rise script m moved is = numbered_rises m.local.serial moved.raises moved.next.local.serial (raises_are_counted script m moved is)
+
 -- ## One more
 
-module _ (P : Member → Type 0) (from to : ℕ) where
-  old_or_new : (born : Option Member) → Born from to born → (x : Member) → With P born x → P x ⊎ ((from ≤ x.serial) × (x.serial < to))
-  old_or_new None range x it = inl it
-  old_or_new (Some new) range x (inl it) = inl it
-  old_or_new (Some new) range x (inr same) = let e : x.serial ≡ new.serial = ap (λ (y : Member). y.serial) same in inr (omega (arith, e, range.0), omega (arith, e, range.1))
+old_or_new : (P : Member → Type 0) (raises : List Member) (born : Option Member) → IsListed raises born → (x : Member) → With P born x → P x ⊎ Contains raises x
+old_or_new P raises None listed x it = inl it
+old_or_new P raises (Some new) listed x (inl it) = inl it
+old_or_new P raises (Some new) listed x (inr same) = inr (subst (Contains raises) (sym same) listed)
 
+module _ (P : Member → Type 0) (from to : ℕ) where
   below_with : (born : Option Member) → Born from to born → ((x : Member) → P x → x.serial < from) → (x : Member) → With P born x → x.serial < to
   below_with None range below x it = omega (arith, below x it, range)
   below_with (Some new) range below x (inl it) = omega (arith, below x it, range.0, range.1)
@@ -98,24 +108,30 @@ module _ (kinds : ℕ → Bool) (script : Script) (m : Mock) (moved : Moved) (ra
   in_next : (x : Member) → IsIn x moved.next → With (With (λ x. IsIn x m) raises.first) raises.second x
   in_next x i = each_in (With (With (λ x. IsIn x m) raises.first) raises.second) kinds moved.next.local.serial moved.next raises.stands raises.shares x i
 
+  raised_by : move script m ≡ Some moved → (x : Member) → Contains (raises.before ++ raises.behind) x → IsRaisedBy m moved x
+  raised_by is x it =
+      let listed : Contains moved.raises x = subst (λ all. Contains all x) (sym raises.all) it in
+      let range : (m.local.serial ≤ x.serial) × (x.serial < moved.next.local.serial) = numbered_contains m.local.serial moved.raises moved.next.local.serial x (raises_are_counted script m moved is) listed in
+      record { listed = listed; from = range.0; below = range.1 }
+
   -- what stood there or was raised in one of the two parts
-  old_or_raised : (x : Member) → With (With (λ x. IsIn x m) raises.first) raises.second x → IsIn x m ⊎ IsRaisedBetween m moved.next x
-  old_or_raised x it = by (old_or_new (With (λ x. IsIn x m) raises.first) raises.middle moved.next.local.serial raises.second raises.second_range x it)
+  old_or_raised : move script m ≡ Some moved → (x : Member) → With (With (λ x. IsIn x m) raises.first) raises.second x → IsIn x m ⊎ IsRaisedBy m moved x
+  old_or_raised is x it = by (old_or_new (With (λ x. IsIn x m) raises.first) raises.behind raises.second raises.second_range.1 x it)
     where
-      by_first : IsIn x m ⊎ ((m.local.serial ≤ x.serial) × (x.serial < raises.middle)) → IsIn x m ⊎ IsRaisedBetween m moved.next x
+      by_first : IsIn x m ⊎ Contains raises.before x → IsIn x m ⊎ IsRaisedBy m moved x
       by_first (inl old) = inl old
-      by_first (inr new) = inr (record { from = new.0; below = omega (arith, new.1, born_rises raises.middle moved.next.local.serial raises.second raises.second_range) })
+      by_first (inr new) = inr (raised_by is x (Contains-append_left raises.before raises.behind x new))
 
-      by : With (λ x. IsIn x m) raises.first x ⊎ ((raises.middle ≤ x.serial) × (x.serial < moved.next.local.serial)) → IsIn x m ⊎ IsRaisedBetween m moved.next x
-      by (inl it) = by_first (old_or_new (λ x. IsIn x m) m.local.serial raises.middle raises.first raises.first_range x it)
-      by (inr new) = inr (record { from = omega (arith, new.0, born_rises m.local.serial raises.middle raises.first raises.first_range); below = new.1 })
+      by : With (λ x. IsIn x m) raises.first x ⊎ Contains raises.behind x → IsIn x m ⊎ IsRaisedBy m moved x
+      by (inl it) = by_first (old_or_new (λ x. IsIn x m) raises.before raises.first raises.first_range.1 x it)
+      by (inr new) = inr (raised_by is x (Contains-append_right raises.before raises.behind x new))
 
-  pub next_is_numbered : (x : Member) → IsIn x moved.next → IsIn x m ⊎ IsRaisedBetween m moved.next x
-  next_is_numbered x i = old_or_raised x (in_next x i)
+  pub next_is_numbered : move script m ≡ Some moved → (x : Member) → IsIn x moved.next → IsIn x m ⊎ IsRaisedBy m moved x
+  next_is_numbered is x i = old_or_raised is x (in_next x i)
 
-  pub line_is_numbered : (x : Member) → IsTold x moved.line → IsIn x m ⊎ IsRaisedBetween m moved.next x
-  line_is_numbered x (InItsCall i) = old_or_raised x (raises.call x i)
-  line_is_numbered x (InItsReply i) = old_or_raised x (raises.reply x i)
+  pub line_is_numbered : move script m ≡ Some moved → (x : Member) → IsTold x moved.line → IsIn x m ⊎ IsRaisedBy m moved x
+  line_is_numbered is x (InItsCall i) = old_or_raised is x (raises.call x i)
+  line_is_numbered is x (InItsReply i) = old_or_raised is x (raises.reply x i)
 
   pub next_fits : Fits kinds m → Fits kinds moved.next
   next_fits fits = record { duties = raises.stands.1; same = (λ n. raises.same_kinds n ∙ fits.same n) }
@@ -123,11 +139,14 @@ module _ (kinds : ℕ → Bool) (script : Script) (m : Mock) (moved : Moved) (ra
   pub next_has_own : HasOwnNumbers m → HasOwnNumbers moved.next
   next_has_own before =
       let P : Member → Type 0 = λ x. IsIn x m in
-      let below_middle : (x : Member) → With P raises.first x → x.serial < raises.middle = below_with P m.local.serial raises.middle raises.first raises.first_range before.below in
+      let Q : Member → Type 0 = With P raises.first in
+      let first : Born m.local.serial raises.middle raises.first = born_of m.local.serial raises.before raises.middle raises.first raises.first_range in
+      let second : Born raises.middle moved.next.local.serial raises.second = born_of raises.middle raises.behind moved.next.local.serial raises.second raises.second_range in
+      let below_middle : (x : Member) → Q x → x.serial < raises.middle = below_with P m.local.serial raises.middle raises.first first before.below in
       record {
-        below = (λ x i. below_with (With P raises.first) raises.middle moved.next.local.serial raises.second raises.second_range below_middle x (in_next x i));
-        own = (λ x y i j e. own_with (With P raises.first) raises.middle moved.next.local.serial raises.second raises.second_range below_middle
-            (own_with P m.local.serial raises.middle raises.first raises.first_range before.below before.own) x y (in_next x i) (in_next y j) e);
+        below = (λ x i. below_with Q raises.middle moved.next.local.serial raises.second second below_middle x (in_next x i));
+        own = (λ x y i j e. own_with Q raises.middle moved.next.local.serial raises.second second below_middle
+            (own_with P m.local.serial raises.middle raises.first first before.below before.own) x y (in_next x i) (in_next y j) e);
       }
 
 -- ## Runs
@@ -182,11 +201,11 @@ module _ (script : Script) where
 pub raises_are_numbered : RaisesAreNumbered
 raises_are_numbered script n moved is x i =
     let m : Mock = (run script n).last in
-    next_is_numbered (kinds_at_first script) script m moved (raises_of_fitting (kinds_at_first script) script m (runs_are_numbered script n).0 moved is) x i
+    next_is_numbered (kinds_at_first script) script m moved (raises_of_fitting (kinds_at_first script) script m (runs_are_numbered script n).0 moved is) is x i
 
 pub lines_tell_numbered : LinesTellNumbered
 lines_tell_numbered script n moved is x i =
-    let m : Mock = (run script n).last in line_is_numbered (kinds_at_first script) script m moved (raises_of_fitting (kinds_at_first script) script m (runs_are_numbered script n).0 moved is) x i
+    let m : Mock = (run script n).last in line_is_numbered (kinds_at_first script) script m moved (raises_of_fitting (kinds_at_first script) script m (runs_are_numbered script n).0 moved is) is x i
 
 pub raises_are_apart : RaisesAreApart
 raises_are_apart script n = (runs_are_numbered script n).1
@@ -200,7 +219,7 @@ pub record Continues (kinds : ℕ → Bool) (before after : Mock) : Type 0 where
   pub older : (y : Member) → IsIn y after → y.serial < before.local.serial → IsIn y before
 
 module _ (kinds : ℕ → Bool) (script : Script) (before : Mock) where
-  older_in_next : (m : Mock) (moved : Moved) (y : Member) → Continues kinds before m → IsIn y m ⊎ IsRaisedBetween m moved.next y → y.serial < before.local.serial → IsIn y before
+  older_in_next : (m : Mock) (moved : Moved) (y : Member) → Continues kinds before m → IsIn y m ⊎ IsRaisedBy m moved y → y.serial < before.local.serial → IsIn y before
   older_in_next m moved y so (inl old) below = so.older y old below
   older_in_next m moved y so (inr new) below = absurd (omega (arith, below, so.rises, new.from))
 
@@ -211,7 +230,7 @@ module _ (kinds : ℕ → Bool) (script : Script) (before : Mock) where
       record {
         fits = next_fits kinds script m moved raises so.fits;
         rises = omega (arith, so.rises, rises);
-        older = (λ y i below. older_in_next m moved y so (next_is_numbered kinds script m moved raises y i) below);
+        older = (λ y i below. older_in_next m moved y so (next_is_numbered kinds script m moved raises is y i) below);
       }
 
 last-append : (m : Mock) (front more : List Moved) → last_after m (front ++ more) ≡ last_after (last_after m front) more

@@ -30,7 +30,7 @@ use Rattle.machine_model.specs.Domain.{Role, OfJob, OfBody, OfSwitch, OfGroup, O
 use Rattle.machine_model.specs.Labels.{Asks, Own}
 use Rattle.machine_model.specs.Shared.{SharedState, Asked, no_object, row_at, receiver_of, message_of, mine_of, posted, after_call, after_strike}
 use Rattle.run_laws.specs.Exceptions.{InCall}
-use Rattle.run_laws.proofs.Places.{at_is, AllData, AllMessage, none}
+use Rattle.run_laws.proofs.Places.{at_is, AllRaised, AllData, AllMessage, none}
 use Rattle.run_laws.proofs.Rows.{is_mutex, is_await, is_wake, InBrought, AllSent}
 use Rattle.run_laws.proofs.Standings.{all_single}
 use Rattle.run_laws.proofs.Answering.{awaits, resolves, AllMine}
@@ -171,7 +171,7 @@ module _ (P : Member → Type 0) where
   row_is rows object all = at_is RowIs rows object no_object all (none P)
 
   abbrev pub Sends : Option Sent → Type 0
-  Sends sent = AllSent P P P sent
+  Sends sent = AllSent P (AllRaised P) P sent
 
   message_is : (stamp : ℕ) (sent : Sent) → Sends (Some sent) → AllMessage P (message_of stamp sent)
   message_is stamp (Resumes who outcome) all = all

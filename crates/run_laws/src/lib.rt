@@ -6,7 +6,7 @@
 ghost use Rattle.run_laws.specs.Beginnings.{MovesBeginAlike, StatesBeginAlike, TracesBeginAlike};
 ghost use Rattle.run_laws.specs.Meanings.{PlacesDontCount, RunsGoByMeaning};
 ghost use Rattle.run_laws.specs.Moves.{MovesWhereSomethingIsLeft, ShortRunsAreOver};
-ghost use Rattle.run_laws.specs.Serials.{LinesTellNumbered, NumbersAreNotReused, RaisesAreApart, RaisesAreNumbered, SerialsRise};
+ghost use Rattle.run_laws.specs.Serials.{LinesTellNumbered, NumbersAreNotReused, RaisesAreApart, RaisesAreCounted, RaisesAreNumbered, SerialsRise, SerialsRiseByRaises};
 
 /// The moves of a run of at most n + k moves begin with those of the run of at most n moves; so do its states, and so
 /// does its trace.
@@ -31,10 +31,14 @@ pub fn runs_go_by_meaning()
     ensures places { PlacesDontCount }
 {}
 
-/// The counter of raises never falls in a move. In a run each exception that stands in a state, or that the line of the
-/// move tells, stood in the state before, or has a number that the counter gave in that move. In each state of a run
-/// all exceptions have numbers below the counter, and two with one number are the same; so are two of different states.
+/// The raises that a move makes, those that are caught in it too, have the numbers from the old counter of raises up to the
+/// new one, each the next, in the order in which they are made; so the counter rises by how many they are, and never
+/// falls. In a run each exception that stands in a state, or that the line of the move tells, stood in the state before,
+/// or is one of the raises of that move. In each state of a run all exceptions have numbers below the counter, and two
+/// with one number are the same; so are two of different states.
 pub fn serials_rise()
+    ensures counted { RaisesAreCounted }
+    ensures exactly { SerialsRiseByRaises }
     ensures rise { SerialsRise }
     ensures numbered { RaisesAreNumbered }
     ensures told { LinesTellNumbered }

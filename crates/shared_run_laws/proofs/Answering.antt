@@ -10,6 +10,7 @@ use Rattle.eio_value.specs.declared.message.Message.TheVariants as message
 use Rattle.eio_value.specs.declared.plain.Plain.TheVariants.{Exit}
 use Rattle.eio_value.specs.declared.raised.Outcome.{Outcome}
 use Rattle.eio_value.specs.declared.raised.Outcome.TheVariants as outcome
+use Rattle.eio_value.specs.declared.raised.Raised.{Raised}
 use Rattle.eio_value.specs.declared.raised.Raised.TheVariants.{Cancelled}
 use Rattle.eio_value.specs.declared.value.Value.{Value}
 use Rattle.eio_value.specs.declared.value.Value.TheVariants as value
@@ -78,9 +79,9 @@ module _ (objects : ℕ) where
   nothing_done_kept (ask.Submit executor weight given block) it g l h = h
   nothing_done_kept call it g l h = answered_with_kept call it said.Nothing value.Unit g l h
 
-  counted_for_stands : (call : Ask) (l : DomainState) → Stands objects l → Stands objects (on_objects.counted_for call l)
-  counted_for_stands (ask.OnObject syntax.Await object) l h = h
-  counted_for_stands call l h = h
+  raised_kept : (call : Ask) (it : Did) (raised : Raised) (g : ℕ) (l : DomainState) → Stands objects l → Kept objects (on_objects.raised_for call it raised g l)
+  raised_kept (ask.OnObject syntax.Await object) it raised g l h = answers_kept objects (outcome.Err raised) g l h
+  raised_kept call it raised g l h = answers_kept objects (outcome.Err raised) g (counted l) h
 
   pub answered_kept : (call : Ask) (role : Role) (it : Did) (asked : Asked) (given : Answer) (g : ℕ) (l : DomainState) → CallIs objects call → RoleIs objects role → Stands objects l
       → Kept objects (on_objects.answered_by call role it asked given g l)
@@ -88,7 +89,7 @@ module _ (objects : ℕ) where
   answered_kept call role it asked answer.Waits g l plain below h = parked_stands objects (OnObject asked.who) g (on_objects.owing_wait call g l) tt (owing_wait_stands call g l plain h)
   answered_kept call role it asked answer.Off g l plain below h = back_stands objects FindsOff g l tt h
   answered_kept call role it asked answer.Nothing g l plain below h = nothing_done_kept call it g l h
-  answered_kept call role it asked (answer.Raised raised) g l plain below h = answers_kept objects (outcome.Err raised) g (on_objects.counted_for call l) (counted_for_stands call l h)
+  answered_kept call role it asked (answer.Raised raised) g l plain below h = raised_kept call it raised g l h
   answered_kept call role it asked (answer.Woke who) g l plain below h = answers_kept objects (outcome.Ok value.Unit) g l h
   answered_kept call role it asked (answer.Started domain number) g l plain below h = answers_kept objects (outcome.Ok value.Unit) g l h
 

@@ -24,7 +24,7 @@ use Rattle.machine_model.specs.Domain.{Role, OfBody, OfJob, OfSwitch, OfGroup, O
 use Rattle.machine_model.specs.Labels.{Asks, Idle, Own, Calls, Strikes, Mocks}
 use Rattle.machine_model.specs.Moves.{asks}
 use Rattle.machine_model.specs.Preparing as doing
-use Rattle.machine_model.specs.Preparing.{Doing, Prepared, prepared, next_of, next_call, found_off, carry_of, called_by, moves_of}
+use Rattle.machine_model.specs.Preparing.{Doing, Prepared, at_once, prepared, next_of, next_call, found_off, carry_of, called_by, moves_of}
 use Rattle.run_laws.proofs.Moves.{by_timers, by_ready, by_duties}
 use Rattle.run_laws.proofs.Places.{all_head, all_tail}
 use Rattle.wait_laws.specs.Mocked.{IsShared}
@@ -48,7 +48,7 @@ module _ (objects : ℕ) where
   Prepares it = DoingIs it.doing × Stands objects it.state
 
   off_is : (why : Plain) (fiber : Fiber) (c : Carry) → IsWork objects fiber.work → SettledIs objects (found_off why fiber c)
-  off_is why fiber c h = thrown_is objects fiber.work (Cancelled (member why c)) (counted c) h
+  off_is why fiber c h = thrown_is objects fiber.work (Cancelled (member why c)) (counted why c) h
 
   next_is : (next : Next) (off : Option Plain) (fiber : Fiber) (c : Carry) → NextIs objects next → IsWork objects fiber.work → SettledIs objects (next_call next off fiber c)
   next_is (GoesOn it) off fiber c is h = passed_is objects it fiber.work c h
@@ -158,7 +158,7 @@ module _ (objects : ℕ) where
   owed_asks maker (Wake object poisoned) l is = (is, tt)
   owed_asks maker (Start executor) l is = if_full_asks (asking.is_full_for_one l) (asking.calls l maker executor (call.NextStart executor)) (is, tt)
 
-  doing_asks : (it : Doing) (l : DomainState) → DoingIs it → Stands objects l → AsksIs (asks_by (record { doing = it; state = l }))
+  doing_asks : (it : Doing) (l : DomainState) → DoingIs it → Stands objects l → AsksIs (asks_by (at_once it l))
   doing_asks doing.Rests l is h = tt
   doing_asks (doing.Owes duty) l is h = owed_asks duty.maker duty.owed l is
   doing_asks (doing.Calls g wanted) l is h = fiber_asks wanted g l is h

@@ -17,7 +17,7 @@ use Rattle.machine_model.specs.Mock.{Mock, Moved, comes, moved_by, move_by, move
 use Rattle.machine_model.specs.Moves.{own_move, called_move, struck_move, stepped_by}
 use Rattle.machine_model.specs.ObjectMoves.{did_ask}
 use Rattle.machine_model.specs.Preparing as doing
-use Rattle.machine_model.specs.Preparing.{Doing, Prepared, prepared}
+use Rattle.machine_model.specs.Preparing.{Doing, Prepared, at_once, prepared}
 use Rattle.machine_model.specs.Shared.{Asked, row_at, stepped, mine_of, strike_wins, declared_row}
 use Rattle.machine_model.specs.Trace.{last_after}
 use Rattle.run_laws.proofs.Beginnings.{from}
@@ -37,14 +37,14 @@ use Rattle.shared_run_laws.proofs.Asking.{DoingIs, Prepares, prepared_prepares, 
 -- ## One move
 
 module _ (objects : ℕ) (script : Script) (blocks : BlocksAre objects script) where
-  own_kept : (it : Doing) (l : DomainState) → DoingIs objects it → Stands objects l → Kept objects (own_move script (record { doing = it; state = l }))
+  own_kept : (it : Doing) (l : DomainState) → DoingIs objects it → Stands objects l → Kept objects (own_move script (at_once it l))
   own_kept doing.Rests l is h = h
   own_kept (doing.Owes duty) l is h = own_duty_kept objects duty.maker duty.owed l h
   own_kept (doing.Calls g wanted) l is h = own_call_kept objects script blocks wanted g l is h
   own_kept (doing.Carries g writer) l is h = absurd is
   own_kept doing.Ticks l is h = absurd is
 
-  called_kept : (it : Doing) (l : DomainState) (asked : Asked) (given : Answer) → DoingIs objects it → Stands objects l → Kept objects (called_move (record { doing = it; state = l }) asked given)
+  called_kept : (it : Doing) (l : DomainState) (asked : Asked) (given : Answer) → DoingIs objects it → Stands objects l → Kept objects (called_move (at_once it l) asked given)
   called_kept doing.Rests l asked given is h = h
   called_kept (doing.Owes duty) l asked given is h = duty_answered_kept objects duty.maker duty.owed given l is h
   called_kept (doing.Calls g wanted) l asked given is h =
@@ -52,7 +52,7 @@ module _ (objects : ℕ) (script : Script) (blocks : BlocksAre objects script) w
   called_kept (doing.Carries g writer) l asked given is h = absurd is
   called_kept doing.Ticks l asked given is h = absurd is
 
-  struck_kept : (it : Doing) (l : DomainState) (won : Bool) → DoingIs objects it → Stands objects l → Kept objects (struck_move (record { doing = it; state = l }) won)
+  struck_kept : (it : Doing) (l : DomainState) (won : Bool) → DoingIs objects it → Stands objects l → Kept objects (struck_move (at_once it l) won)
   struck_kept doing.Rests l won is h = h
   struck_kept (doing.Owes duty) l won is h = duty_struck_kept objects duty.maker duty.owed won l h
   struck_kept (doing.Calls g wanted) l won is h = h
@@ -68,7 +68,7 @@ module _ (objects : ℕ) (script : Script) (blocks : BlocksAre objects script) w
   PlainIf (Some moved) = IsPlain moved.next
 
   asks_plain : (m : Mock) (it : Prepared) → Prepares objects it → Shares objects m.shared → (asks : Asks) → AsksIs objects asks
-      → PlainIf (elim (comes m (m.local.stamp + 1) asks) [ None ↦ None | Some came ↦ Some (moved_by m (m.local.stamp + 1) came (stepped_by script it came.label m.local)) ])
+      → PlainIf (elim (comes m (m.local.stamp + 1) asks) [ None ↦ None | Some came ↦ Some (moved_by m (m.local.stamp + 1) it.raises came (stepped_by script it came.label m.local)) ])
   asks_plain m it prepares shares Idle is = tt
   asks_plain m it prepares shares Own is = (own_kept it.doing it.state prepares.0 prepares.1, shares)
   asks_plain m it prepares shares (Calls asked) is =

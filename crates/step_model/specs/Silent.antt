@@ -12,7 +12,7 @@ use Rattle.script_model.specs.Syntax as syntax
 use Rattle.step_model.specs.Evaluation.{Evaluated, Is, Raises, value_at, number_at, value_of, values_of, number_of, text_of}
 use Rattle.step_model.specs.Asks.{Ask, Place}
 use Rattle.step_model.specs.Asks as ask
-use Rattle.step_model.specs.Work.{Work, Carry, cut, bound, member, counted, caught}
+use Rattle.step_model.specs.Work.{Work, Carry, cut, bound, new_raise, caught}
 use Rattle.step_model.specs.Work as work
 
 -- how statements go: past them all with a value; to a call, with the work behind it; or to an exception
@@ -35,7 +35,7 @@ within keep went = and_then went (λ value c. Past value (cut keep c)) Threw (wo
 
 -- a new raise
 abbrev pub raises : PlainException → Carry → Went
-raises what c = Threw (One (member what c)) (counted c)
+raises what c = new_raise what c (λ x d. Threw (One x) d)
 
 -- goes on with what was evaluated, or raises
 abbrev pub with_value : {A : Type 0} → Evaluated A → Carry → (A → Went) → Went

@@ -45,11 +45,12 @@ pub data Work : Type 0 where
   -- the end of a fiber that resolves a promise
   Resolve : (promise : ℕ) → Work
 
--- what silent statements change: the fiber's variables, the table of texts, and the number that the next raise has
+-- what silent statements change: the fiber's variables, the table of texts, the number that the next raise has, and the list of the raises so far
 pub record Carry : Type 0 where
   pub variables : List Value
   pub texts : List (List ℕ)
   pub serial : ℕ
+  pub raises : List Member
 
 -- ## Variables
 
@@ -66,12 +67,15 @@ bound slot value c = record c { variables = take slot c.variables ++ value ∷ [
 
 -- ## Exceptions
 
--- a new raise of this exception, by the next number
 abbrev pub member : Plain → Carry → Member
 member what c = record { serial = c.serial; what = what }
 
-abbrev pub counted : Carry → Carry
-counted c = record c { serial = c.serial + 1 }
+abbrev pub counted : Plain → Carry → Carry
+counted what c = record c { serial = c.serial + 1; raises = c.raises ++ member what c ∷ [] }
+
+-- a new raise of this exception: it takes the next number, and is listed
+abbrev pub new_raise : {A : Type 0} → Plain → Carry → (Member → Carry → A) → A
+new_raise what c then = then (member what c) (counted what c)
 
 -- the bound text of an exception in this slot; it stands in the table from then on
 abbrev pub caught : (slot : ℕ) → Raised → Carry → Carry

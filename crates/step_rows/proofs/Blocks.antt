@@ -45,7 +45,7 @@ unfolding calls
 cut_behind_call = refl
 
 -- what is left at the last call are the variables of main alone
-variables_left : carried (codes "(eio 1 (main (let x 1) (let y \"a\") (if 1 ((let z 2)) ()) (yield)))") [] ≡ Some (record { variables = Int (pos 1) ∷ Text (text_id 0) ∷ []; texts = codes "a" ∷ []; serial = 0 })
+variables_left : carried (codes "(eio 1 (main (let x 1) (let y \"a\") (if 1 ((let z 2)) ()) (yield)))") [] ≡ Some (record { variables = Int (pos 1) ∷ Text (text_id 0) ∷ []; texts = codes "a" ∷ []; serial = 0; raises = [] })
 unfolding carried
 variables_left = refl
 

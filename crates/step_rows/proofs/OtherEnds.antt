@@ -131,7 +131,7 @@ behind_directory = refl
 
 -- a promise gets the outcome, and the end of the fiber has unit, or what `resolve` raised
 abbrev fresh : Carry
-fresh = record { variables = int 4 ∷ []; texts = []; serial = 2 }
+fresh = record { variables = int 4 ∷ []; texts = []; serial = 2; raises = [] }
 
 resolves_with_value : calls_from (done ∷ []) (settled (begun_promising 6 (Begins 0 (Then (Give (Variable 0)) Done)) fresh.variables) fresh) ≡ ResolveEnd 6 (Ok (int 4)) ∷ ends Unit ∷ []
 unfolding value_of values_of statement answered

@@ -7,7 +7,7 @@ use Rattle.eio_value.specs.declared.value.Value.TheVariants.{Unit, Int, Text}
 use Rattle.eio_value.specs.declared.plain.Misuse.TheVariants.{NotNumber}
 use Rattle.eio_value.specs.declared.plain.Plain.TheVariants.{Failure, Invalid, EndOfFile, Exit}
 use Rattle.step_model.specs.Asks.{Ask, Trace, Yield}
-use Rattle.step_rows.specs.Replied.{Throws, Cancels, done, ends, fails}
+use Rattle.step_rows.specs.Replied.{Throws, Cancels, done, member, ends, fails}
 use Rattle.step_rows.specs.Runs.{calls, carried}
 
 abbrev traces_text : ℕ → Ask
@@ -22,7 +22,7 @@ text_is_bound : calls (codes "(eio 1 (main (try ((raise \"a\") (trace 1)) e ((tr
 unfolding calls
 text_is_bound = refl
 
-bound_text_is_interned : carried (codes "(eio 1 (main (try ((raise \"a\")) e ((trace e)))))") [] ≡ Some (record { variables = Text (text_id 1) ∷ []; texts = codes "a" ∷ codes "Failure \"a\"" ∷ []; serial = 1 })
+bound_text_is_interned : carried (codes "(eio 1 (main (try ((raise \"a\")) e ((trace e)))))") [] ≡ Some (record { variables = Text (text_id 1) ∷ []; texts = codes "a" ∷ codes "Failure \"a\"" ∷ []; serial = 1; raises = member 0 (Failure (text_id 0)) ∷ [] })
 unfolding carried
 bound_text_is_interned = refl
 
@@ -37,7 +37,7 @@ unfolding calls
 try_in_try = refl
 
 -- the same with no call between, and the numbers of both raises taken
-try_in_silent_try : carried (codes "(eio 1 (main (try ((try ((raise \"a\")) e ((raise \"b\")))) f ((trace f)))))") [] ≡ Some (record { variables = Text (text_id 3) ∷ []; texts = codes "a" ∷ codes "b" ∷ codes "Failure \"a\"" ∷ codes "Failure \"b\"" ∷ []; serial = 2 })
+try_in_silent_try : carried (codes "(eio 1 (main (try ((try ((raise \"a\")) e ((raise \"b\")))) f ((trace f)))))") [] ≡ Some (record { variables = Text (text_id 3) ∷ []; texts = codes "a" ∷ codes "b" ∷ codes "Failure \"a\"" ∷ codes "Failure \"b\"" ∷ []; serial = 2; raises = member 0 (Failure (text_id 0)) ∷ member 1 (Failure (text_id 1)) ∷ [] })
 unfolding carried
 try_in_silent_try = refl
 
@@ -47,7 +47,7 @@ unfolding calls
 inner_takes_it = refl
 
 -- a second `try` of one text binds the same number; raises are counted
-one_text_twice : carried (codes "(eio 1 (main (try ((raise \"a\")) e ()) (try ((yield) (raise \"a\")) f ((trace f)))))") (done ∷ []) ≡ Some (record { variables = Text (text_id 1) ∷ []; texts = codes "a" ∷ codes "Failure \"a\"" ∷ []; serial = 2 })
+one_text_twice : carried (codes "(eio 1 (main (try ((raise \"a\")) e ()) (try ((yield) (raise \"a\")) f ((trace f)))))") (done ∷ []) ≡ Some (record { variables = Text (text_id 1) ∷ []; texts = codes "a" ∷ codes "Failure \"a\"" ∷ []; serial = 2; raises = member 0 (Failure (text_id 0)) ∷ member 1 (Failure (text_id 0)) ∷ [] })
 unfolding carried
 one_text_twice = refl
 
@@ -95,16 +95,16 @@ second_block_gives_late = refl
 
 -- replies that raise
 
-reply_is_taken : carried (codes "(eio 1 (stream q 1) (main (try ((take q)) e ((trace e)))))") (Throws EndOfFile ∷ []) ≡ Some (record { variables = Text (text_id 1) ∷ []; texts = codes "q" ∷ codes "End_of_file" ∷ []; serial = 1 })
+reply_is_taken : carried (codes "(eio 1 (stream q 1) (main (try ((take q)) e ((trace e)))))") (Throws EndOfFile ∷ []) ≡ Some (record { variables = Text (text_id 1) ∷ []; texts = codes "q" ∷ codes "End_of_file" ∷ []; serial = 1; raises = member 0 EndOfFile ∷ [] })
 unfolding carried
 reply_is_taken = refl
 
-cancelled_is_taken : carried (codes "(eio 1 (main (try ((yield)) e ((trace e)))))") (Cancels Exit ∷ []) ≡ Some (record { variables = Text (text_id 0) ∷ []; texts = codes "Cancelled: Exit" ∷ []; serial = 1 })
+cancelled_is_taken : carried (codes "(eio 1 (main (try ((yield)) e ((trace e)))))") (Cancels Exit ∷ []) ≡ Some (record { variables = Text (text_id 0) ∷ []; texts = codes "Cancelled: Exit" ∷ []; serial = 1; raises = member 0 Exit ∷ [] })
 unfolding carried
 cancelled_is_taken = refl
 
 -- the exception of an expression, as the text that it has
-misuse_is_taken : carried (codes "(eio 1 (main (try ((trace (plus \"a\" 1))) e ((trace e)))))") [] ≡ Some (record { variables = Text (text_id 1) ∷ []; texts = codes "a" ∷ codes "Invalid_argument \"Not a number\"" ∷ []; serial = 1 })
+misuse_is_taken : carried (codes "(eio 1 (main (try ((trace (plus \"a\" 1))) e ((trace e)))))") [] ≡ Some (record { variables = Text (text_id 1) ∷ []; texts = codes "a" ∷ codes "Invalid_argument \"Not a number\"" ∷ []; serial = 1; raises = member 0 (Invalid NotNumber) ∷ [] })
 unfolding carried
 misuse_is_taken = refl
 

@@ -2,6 +2,7 @@
 use Rattle.std.specs.Prelude.{ℕ, true, List, [], ◌∷◌, map, Some, None}
 use Rattle.eio_value.specs.declared.value.Value.{Value}
 use Rattle.eio_value.specs.declared.value.Value.TheVariants as value
+use Rattle.eio_value.specs.declared.plain.Member.{Member}
 use Rattle.eio_value.specs.declared.plain.Misuse.TheVariants.{SwitchFinished}
 use Rattle.eio_value.specs.declared.plain.Plain.{Plain}
 use Rattle.eio_value.specs.declared.plain.Plain.TheVariants.{Invalid}
@@ -11,7 +12,7 @@ use Rattle.eio_value.specs.declared.raised.Outcome.TheVariants as outcome
 use Rattle.script_model.specs.Syntax.{Block, Begins, Statements, Done}
 use Rattle.step_model.specs.Asks.{Ask, again, passing}
 use Rattle.step_model.specs.Asks as ask
-use Rattle.step_model.specs.Work.{Work, Carry, restored, member, counted}
+use Rattle.step_model.specs.Work.{Work, Carry, restored, new_raise}
 use Rattle.step_model.specs.Settling.{Settled, answered, thrown}
 use Rattle.step_model.specs.Replies.{Position, passed, entered, handled}
 
@@ -37,10 +38,10 @@ settled position c = answered position.work value.Unit (restored position.variab
 
 -- goes on with a new raise of this exception, or of a cancellation for this reason
 abbrev pub raised : Plain → List Work → Carry → Settled
-raised what work c = thrown work (One (member what c)) (counted c)
+raised what work c = new_raise what c (λ x d. thrown work (One x) d)
 
 abbrev pub cancelled : (reason : Plain) → List Work → Carry → Settled
-cancelled reason work c = thrown work (Cancelled (member reason c)) (counted c)
+cancelled reason work c = new_raise reason c (λ x d. thrown work (Cancelled x) d)
 
 -- goes on behind an end that was answered `()`. The value of a handler of a switch that had finished is refused
 abbrev pub ended : Ask → List Work → Carry → Settled
@@ -93,8 +94,11 @@ carried_from (reply ∷ replies) s = carried_from replies (replied reply s)
 abbrev pub done : Reply
 done = Gives value.Unit
 
+abbrev pub member : (serial : ℕ) → Plain → Member
+member serial what = record { serial = serial; what = what }
+
 abbrev pub raise : (serial : ℕ) → Plain → Raised
-raise serial what = One (record { serial = serial; what = what })
+raise serial what = One (member serial what)
 
 abbrev pub ends : Value → Ask
 ends it = ask.End (outcome.Ok it)

@@ -28,7 +28,7 @@ main_in [] = Begins 0 Done
 main_in (main ∷ others) = main
 
 abbrev pub opened : Script → Settled
-opened it = settled (begun (main_in it.bodies) []) (record { variables = []; texts = it.texts; serial = 0 })
+opened it = settled (begun (main_in it.bodies) []) (record { variables = []; texts = it.texts; serial = 0; raises = [] })
 
 -- the calls of main under these replies; none where the bytes are no script
 unfoldable pub calls : List ℕ → List Reply → List Ask

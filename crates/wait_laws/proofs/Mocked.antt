@@ -5,7 +5,7 @@ use Rattle.row_model.specs.Row.{Stepped}
 use Rattle.machine_model.specs.Asking.{asks_by}
 use Rattle.machine_model.specs.Labels.{Asks, Idle, Own, Calls, Strikes, Mocks, Label, Inner, Called, Struck}
 use Rattle.machine_model.specs.Mock.{Mock, Came, comes, Moved, moved_by, move_by, move}
-use Rattle.machine_model.specs.Moves.{asks, after, line_of, stepped_by, line_by}
+use Rattle.machine_model.specs.Moves.{asks, after, line_of, raises_of, stepped_by, line_by}
 use Rattle.machine_model.specs.Preparing.{prepared}
 use Rattle.machine_model.specs.Runs.{Letter, Fits, SharedMoves, away_of}
 use Rattle.machine_model.specs.Shared.{SharedState, stepped, mine_of, strike_wins}
@@ -19,16 +19,17 @@ module _ (script : Script) (m : Mock) (alive : m.local.halted ≡ false) (none_l
   next_stamp = m.local.stamp + 1
 
   abbrev step_of : Asks → Came → Moved
-  step_of it came = moved_by m next_stamp came (stepped_by script (prepared m.local) came.label m.local)
+  step_of it came = moved_by m next_stamp (prepared m.local).raises came (stepped_by script (prepared m.local) came.label m.local)
 
   -- what came is what the domain asked for, and what the shared part gives
   by_label : (label : Label) (away : Option Letter) (t : SharedState) → Fits m.local label → SharedMoves m.shared m.local.number next_stamp label away 0 t
-      → IsMove script m (moved_by m next_stamp (record { label = label; shared = t; world = m.world }) (stepped_by script (prepared m.local) label m.local))
-  unfolding after line_of
+      → IsMove script m (moved_by m next_stamp (prepared m.local).raises (record { label = label; shared = t; world = m.world }) (stepped_by script (prepared m.local) label m.local))
+  unfolding after line_of raises_of
   by_label label away t fits moves =
       record {
         noted = record { line = line_by m.local.number next_stamp (stepped_by script (prepared m.local) label m.local); label = label; away = away; from = 0 };
         line = refl;
+        raises = refl;
         stamp = refl;
         local = record { runs = alive; fits = fits; later = omega arith; told = refl; next = refl };
         shared = moves;
@@ -36,7 +37,7 @@ module _ (script : Script) (m : Mock) (alive : m.local.halted ≡ false) (none_l
       }
 
   by_asks : (moved : Moved) (it : Asks) → asks m.local ≡ it → IsShared (length m.shared.rows) it
-      → elim (comes m next_stamp it) [ None ↦ None | Some came ↦ Some (moved_by m next_stamp came (stepped_by script (prepared m.local) came.label m.local)) ] ≡ Some moved
+      → elim (comes m next_stamp it) [ None ↦ None | Some came ↦ Some (moved_by m next_stamp (prepared m.local).raises came (stepped_by script (prepared m.local) came.label m.local)) ] ≡ Some moved
       → IsMove script m moved
   by_asks moved Idle asked shared is = absurd (cc)
   by_asks moved Own asked shared is = subst (IsMove script m) (the_move _ moved is) (by_label Inner None m.shared asked (refl, refl))

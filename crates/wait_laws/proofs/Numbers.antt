@@ -44,7 +44,7 @@ use Rattle.machine_model.specs.Labels.{Label, Inner, Called, Struck, Mocked, Too
 use Rattle.machine_model.specs.Moves.{own_call, own_move, called_move, struck_move, with_message, stepped_by, after}
 use Rattle.machine_model.specs.ObjectMoves as on_objects
 use Rattle.machine_model.specs.Preparing as doing
-use Rattle.machine_model.specs.Preparing.{Doing, Prepared, prepared, prepared_ready, prepared_timers, moves_of, next_of}
+use Rattle.machine_model.specs.Preparing.{Doing, Prepared, at_once, prepared, prepared_ready, prepared_timers, moves_of, next_of}
 use Rattle.machine_model.specs.Shared.{Asked}
 use Rattle.machine_model.specs.Steps as steps
 use Rattle.machine_model.specs.Steps.{Step}
@@ -292,16 +292,16 @@ module _ (n : ℕ) where
   owing_wait_has (ask.Submit executor weight given block) maker l h = h
   owing_wait_has call maker l h = h
 
-  counted_for_has : (call : Ask) (l : DomainState) → Has l → Has (on_objects.counted_for call l)
-  counted_for_has (ask.OnObject syntax.Await object) l h = h
-  counted_for_has call l h = h
+  raised_ends : (call : Ask) (it : Did) (raised : Raised) (g : ℕ) (l : DomainState) → Has l → Ends (on_objects.raised_for call it raised g l)
+  raised_ends (ask.OnObject syntax.Await object) it raised g l h = record { is = h }
+  raised_ends call it raised g l h = record { is = h }
 
   answered_ends : (call : Ask) (role : Role) (it : Did) (asked : Asked) (given : Answer) (g : ℕ) (l : DomainState) → Has l → Ends (on_objects.answered_by call role it asked given g l)
   answered_ends call role it asked (answer.Done given) g l h = answered_with_ends call it (said.Done given) given g (on_objects.owing call role given g l) (owing_has call role given g l h)
   answered_ends call role it asked answer.Waits g l h = record { is = owing_wait_has call g l h }
   answered_ends call role it asked answer.Off g l h = record { is = h }
   answered_ends call role it asked answer.Nothing g l h = nothing_done_ends call it g l h
-  answered_ends call role it asked (answer.Raised raised) g l h = record { is = counted_for_has call l h }
+  answered_ends call role it asked (answer.Raised raised) g l h = raised_ends call it raised g l h
   answered_ends call role it asked (answer.Woke who) g l h = record { is = h }
   answered_ends call role it asked (answer.Started domain number) g l h = record { is = h }
 
@@ -356,7 +356,7 @@ module _ (n : ℕ) where
 
   -- ## The move
 
-  timers_has : (l : DomainState) (standing : List Timer) → Has l → Has (elim standing as (λ _. Prepared) [ [] ↦ record { doing = doing.Rests; state = l } | timer ∷ others ↦ record { doing = doing.Ticks; state = l } ]).state
+  timers_has : (l : DomainState) (standing : List Timer) → Has l → Has (elim standing as (λ _. Prepared) [ [] ↦ at_once doing.Rests l | timer ∷ others ↦ at_once doing.Ticks l ]).state
   timers_has l [] h = h
   timers_has l (timer ∷ others) h = h
 
@@ -368,7 +368,7 @@ module _ (n : ℕ) where
   ready_has l [] h = timers_has l l.timers.standing h
   ready_has l (g ∷ others) h = moves_of_has (fiber_at l.fibers g).role g (fiber_at l.fibers g) (next_of (fiber_at l.fibers g).standing) (record l { ready = others }) h
 
-  duties_has : (l : DomainState) (duties : List Duty) → Has l → Has (elim duties as (λ _. Prepared) [ [] ↦ prepared_ready l | duty ∷ others ↦ record { doing = doing.Owes duty; state = record l { duties = others } } ]).state
+  duties_has : (l : DomainState) (duties : List Duty) → Has l → Has (elim duties as (λ _. Prepared) [ [] ↦ prepared_ready l | duty ∷ others ↦ at_once (doing.Owes duty) (record l { duties = others }) ]).state
   duties_has l [] h = ready_has l l.ready h
   duties_has l (duty ∷ others) h = h
 
@@ -376,21 +376,21 @@ module _ (n : ℕ) where
   unfolding prepared
   prepared_has l h = duties_has l l.duties h
 
-  own_ends : (script : Script) (what : Doing) (l : DomainState) → Has l → Ends (own_move script (record { doing = what; state = l }))
+  own_ends : (script : Script) (what : Doing) (l : DomainState) → Has l → Ends (own_move script (at_once what l))
   own_ends script doing.Rests l h = record { is = h }
   own_ends script (doing.Owes duty) l h = own_duty_ends duty.maker duty.owed l h
   own_ends script (doing.Calls g call) l h = own_call_ends script call g l h
   own_ends script (doing.Carries g writer) l h = record { is = h }
   own_ends script doing.Ticks l h = tick_ends l h
 
-  called_ends : (what : Doing) (l : DomainState) (asked : Asked) (given : Answer) → Has l → Ends (called_move (record { doing = what; state = l }) asked given)
+  called_ends : (what : Doing) (l : DomainState) (asked : Asked) (given : Answer) → Has l → Ends (called_move (at_once what l) asked given)
   called_ends doing.Rests l asked given h = record { is = h }
   called_ends (doing.Owes duty) l asked given h = duty_answered_ends duty.maker duty.owed given l h
   called_ends (doing.Calls g call) l asked given h = answered_ends call (fiber_at l.fibers g).role (on_objects.did_ask call (fiber_at l.fibers g).role) asked given g l h
   called_ends (doing.Carries g writer) l asked given h = record { is = h }
   called_ends doing.Ticks l asked given h = record { is = h }
 
-  struck_ends : (what : Doing) (l : DomainState) (won : Bool) → Has l → Ends (struck_move (record { doing = what; state = l }) won)
+  struck_ends : (what : Doing) (l : DomainState) (won : Bool) → Has l → Ends (struck_move (at_once what l) won)
   struck_ends doing.Rests l won h = record { is = h }
   struck_ends (doing.Owes duty) l won h = duty_struck_ends duty.maker duty.owed won l h
   struck_ends (doing.Calls g call) l won h = record { is = h }

@@ -5,7 +5,7 @@ use Rattle.script_model.specs.Scripts.{Script}
 use Rattle.machine_model.specs.Histories.{domain_at_first, IsLegalHistory, domains_in, ending_of}
 use Rattle.machine_model.specs.Labels.{Asks, Idle, Own, Calls, Strikes, Mocks}
 use Rattle.machine_model.specs.Mock.{Mock, Moved, opening, move}
-use Rattle.machine_model.specs.Moves.{asks}
+use Rattle.machine_model.specs.Moves.{asks, raises_of}
 use Rattle.machine_model.specs.Runs.{Noted, domain_of, stamp_of, stamps_below, DomainMoves, SharedMoves, State}
 use Rattle.machine_model.specs.Shared.{stamp_at}
 use Rattle.machine_model.specs.Trace.{Run, run, ending_in}
@@ -24,10 +24,11 @@ IsShared objects (Mocks asked) = ⊥
 abbrev pub NoneIsLater : Mock → Type 0
 NoneIsLater m = (object : ℕ) → stamp_at m.shared.stamps object ≤ m.local.stamp
 
--- a move is one of the domain and of the shared part, by a line with what stands beside it; the mocked outside stays as it was
+-- a move is one of the domain and of the shared part, by a line with what stands beside it, with the raises of that line; the mocked outside stays as it was
 pub record IsMove (script : Script) (m : Mock) (moved : Moved) : Type 0 where
   pub noted : Noted
   pub line : noted.line ≡ moved.line
+  pub raises : moved.raises ≡ raises_of script m.local noted.label
   pub stamp : stamp_of noted ≡ m.local.stamp + 1
   pub local : DomainMoves script m.local noted moved.next.local
   pub shared : SharedMoves m.shared (domain_of noted) (stamp_of noted) noted.label noted.away noted.from moved.next.shared

@@ -1,5 +1,11 @@
-use Rattle.run_laws.proofs.Serials.{serials_rise, raises_are_numbered, lines_tell_numbered, numbers_are_not_reused, raises_are_apart}
+use Rattle.run_laws.proofs.Serials.{raises_are_counted, serials_rise_by_raises, serials_rise, raises_are_numbered, lines_tell_numbered, numbers_are_not_reused, raises_are_apart}
 use Rattle.run_laws.proofs.serials_rise.Goals as goal
+
+pub returns-clause-counted : goal.returns-clause-counted
+returns-clause-counted c = raises_are_counted
+
+pub returns-clause-exactly : goal.returns-clause-exactly
+returns-clause-exactly c = serials_rise_by_raises
 
 pub returns-clause-rise : goal.returns-clause-rise
 returns-clause-rise c = serials_rise
