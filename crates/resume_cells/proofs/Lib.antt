@@ -1,0 +1,11 @@
+pub mod Tests
+pub mod Marks
+pub mod Fresh
+pub mod Lasts
+pub mod Arming
+pub mod Keeping
+pub mod Deciding
+pub mod Outcomes
+pub mod Dealing
+pub mod Agreeing
+pub mod Closing
