@@ -11,17 +11,17 @@ use Rattle.resume_cells.specs.Marks.{Entry, word, word_of, WasWord, Follows, IsH
 use Rattle.resume_cells.specs.Histories.{mark_of, history_of, InTurn, IsDecidedInTurn, Stood, AllStood}
 
 -- after some marks: the wait that stands open, and the last stamp
-abbrev At : Type 0
+abbrev pub At : Type 0
 At = Option ℕ × ℕ
 
-abbrev Fits : At → List words.Mark → Type 0
+abbrev pub Fits : At → List words.Mark → Type 0
 Fits at marks = words.Continues at.0 at.1 marks × InTurn at.0 marks
 
-abbrev after_one : words.Mark → At
+abbrev pub after_one : words.Mark → At
 after_one (Arms armed maker) = (Some armed, armed)
 after_one (Decides decision armed stamp maker) = (None, stamp)
 
-abbrev after : At → List words.Mark → At
+abbrev pub after : At → List words.Mark → At
 after at [] = at
 after at (m ∷ ms) = after (after_one m) ms
 

@@ -9,3 +9,5 @@ pub mod Outcomes
 pub mod Dealing
 pub mod Agreeing
 pub mod Closing
+pub mod Winners
+pub mod Seen

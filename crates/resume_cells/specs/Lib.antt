@@ -6,3 +6,4 @@ pub mod Histories
 pub mod Rule
 pub mod Plays
 pub mod Outcomes
+pub mod Laws

@@ -11,10 +11,15 @@
 #![tactic(auto)]
 
 mod cells;
+mod laws;
 mod rule;
 mod seat;
 mod view;
 
 pub use cells::{Cells, Decided};
+pub use laws::{
+    found_decided_stays, found_is_decided, one_winner, own_cells_lie_together, rules_agree,
+    waits_are_decided_once,
+};
 pub use seat::CellSeat;
 pub use view::{Deed, Found, Mark, Told, View};
