@@ -13,7 +13,7 @@ use Rattle.resume_cells.specs.declared.view.Told.{Told}
 use Rattle.resume_cells.specs.Marks.{code_of, Entry, word, WasWord, Follows, IsHistory, IsDecision, of_cell, marks_by, AreByOwners, AllWere}
 use Rattle.resume_cells.specs.Known.{waiting, is_arm, decides, tells_decided, knows, knows_below, last_armed, CanArm}
 use Rattle.resume_cells.specs.Views.{arm_of}
-use Rattle.resume_cells.proofs.Tests.{or_true, or_left, or_right, or_false, and_true, and_left, equal_if}
+use Rattle.resume_cells.proofs.Cases.{or_true, or_left, or_right, or_false, and_true, and_left, equal_if}
 use Rattle.resume_cells.proofs.Marks.{here, away, older, below_stamp}
 use Rattle.resume_cells.proofs.Fresh.{fresh, Undecided, too_old, not_decides}
 use Rattle.resume_cells.proofs.Lasts.{last_of, last_is}

@@ -13,7 +13,7 @@ use Rattle.resume_cells.specs.declared.rule.Plan.{Plan}
 use Rattle.resume_cells.specs.Marks.{marks_by, AllWere}
 use Rattle.resume_cells.specs.Rule.{IsFree, Fits, Leads, Keeps}
 use Rattle.resume_cells.specs.Views.{first_view, dealing, dealt_to, taking_in, spent}
-use Rattle.resume_cells.proofs.Tests.{at_below}
+use Rattle.resume_cells.proofs.Cases.{at_below}
 
 pub at_end : {A : Type 0} (l : List A) (a b : A) (j : ℕ) → get_elem? (l ++ a ∷ []) j ≡ some b → (get_elem? l j ≡ some b) ⊎ ((j ≡ length l) × (a ≡ b))
 at_end [] a b zero e = inr (refl, some-injective a b e)

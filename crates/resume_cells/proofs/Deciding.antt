@@ -15,7 +15,7 @@ use Rattle.resume_cells.specs.Known.{knows, waiting, SaysWoken, CanArm}
 use Rattle.resume_cells.specs.Rule.{Kept, Keeps}
 use Rattle.resume_cells.specs.Views.{marked, found, arm_of, decision_of}
 use Rattle.resume_cells.specs.Plays.{Decides, Arms}
-use Rattle.resume_cells.proofs.Tests.{set_same}
+use Rattle.resume_cells.proofs.Cases.{set_same}
 use Rattle.resume_cells.proofs.Marks.{head_is, decision_follows}
 use Rattle.resume_cells.proofs.Fresh.{fresh}
 use Rattle.resume_cells.proofs.Lasts.{woken}

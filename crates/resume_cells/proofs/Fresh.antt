@@ -11,7 +11,7 @@ use Rattle.resume_cells.specs.declared.view.Found.{Found}
 use Rattle.resume_cells.specs.declared.view.Told.{Told}
 use Rattle.resume_cells.specs.Marks.{code_of, Entry, word, WasWord, IsHistory, of_cell, marks_by, AllWere}
 use Rattle.resume_cells.specs.Known.{tells_decided, is_arm, decides, knows}
-use Rattle.resume_cells.proofs.Tests.{or_false, and_right, and_left, bool_cases}
+use Rattle.resume_cells.proofs.Cases.{or_false, and_right, and_left, bool_cases}
 use Rattle.resume_cells.proofs.Marks.{below_stamp, older}
 
 not_told : (cell armed : ℕ) (f : Found) → (f.cell ≡ cell → (f.word ≡ 4 * armed + 1) ⊎ (f.word < 4 * armed)) → tells_decided cell armed f ≡ false

@@ -10,7 +10,7 @@ use Rattle.resume_cells.specs.declared.view.Mark.{Mark}
 use Rattle.resume_cells.specs.Marks.{code_of, Entry, word_of, Follows, IsHistory, of_cell, marks_by, AreByOwners}
 use Rattle.resume_cells.specs.declared.view.Told.{Told}
 use Rattle.resume_cells.specs.Known.{is_arm, is_cancel, cancels, last_armed, IsLast, SaysWoken}
-use Rattle.resume_cells.proofs.Tests.{bool_cases, eqb_cases, deed_cases, both_true, and_right, or_left, or_right, some_is, none-ne-some, nil-ne-cons}
+use Rattle.resume_cells.proofs.Cases.{bool_cases, eqb_cases, deed_cases, both_true, and_right, or_left, or_right, some_is, none-ne-some, nil-ne-cons}
 use Rattle.resume_cells.proofs.Marks.{here, away, mine}
 
 -- the last arm of a cell's history

@@ -1,4 +1,4 @@
-pub mod Tests
+pub mod Cases
 pub mod Marks
 pub mod Fresh
 pub mod Lasts
@@ -11,3 +11,4 @@ pub mod Agreeing
 pub mod Closing
 pub mod Winners
 pub mod Seen
+pub mod Racing

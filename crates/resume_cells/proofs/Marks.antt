@@ -9,7 +9,7 @@ use Rattle.resume_cells.specs.declared.view.Mark.{Mark}
 use Rattle.resume_cells.specs.declared.view.Found.{Found}
 use Rattle.resume_cells.specs.Marks.{code_of, Entry, word, word_of, WasWord, Follows, IsHistory, of_cell, marks_by, AllWere}
 use Rattle.resume_cells.specs.Views.{decision_of}
-use Rattle.resume_cells.proofs.Tests.{eqb_cases, deed_cases}
+use Rattle.resume_cells.proofs.Cases.{eqb_cases, deed_cases}
 
 pub below_stamp : (m p : Mark) (ps : List Mark) → Follows m (p ∷ ps) → p.stamp < m.stamp
 below_stamp m p ps f = ⊎_elim (λ a. a.2) (λ d. d.3) f

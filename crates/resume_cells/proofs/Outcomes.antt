@@ -17,7 +17,7 @@ use Rattle.resume_cells.specs.Outcomes.{IfWon, IfLost, outcome_of}
 use Rattle.resume_cells.specs.Plays.{Decides}
 use Rattle.resume_cells.specs.Seats.{Seated, seated, with_mark, with_found}
 use Rattle.resume_cells.specs.Views.{marked, found, decision_of}
-use Rattle.resume_cells.proofs.Tests.{eqb_cases}
+use Rattle.resume_cells.proofs.Cases.{eqb_cases}
 
 pub if_won : (P : Type 0) (n wanted : ℕ) (d : Decided) → d ≡ outcome_of n wanted → (n ≡ wanted → P) → IfWon d P
 if_won P n wanted d is p = subst (λ o. IfWon o P) (sym is)

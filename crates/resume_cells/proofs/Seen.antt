@@ -16,7 +16,7 @@ use Rattle.resume_cells.specs.Marks.{Entry, marks_by, IsDecision}
 use Rattle.resume_cells.specs.Known.{waiting, is_arm, decides}
 use Rattle.resume_cells.specs.Histories.{mark_of, history_of, Stood, AllStood, IsDecidedInTurn, told_by}
 use Rattle.resume_cells.specs.Laws.{decisions_of, Begins, OneWinner, FoundIsDecided, RulesAgree, CellsLieTogether}
-use Rattle.resume_cells.proofs.Tests.{and_true, equal_if, both_true, bool_cases}
+use Rattle.resume_cells.proofs.Cases.{and_true, equal_if, both_true, bool_cases}
 use Rattle.resume_cells.proofs.Marks.{mine, not_mine}
 use Rattle.resume_cells.proofs.Agreeing.{to_history, from_history, words_alike}
 use Rattle.resume_cells.proofs.Winners.{decided_once, found_stays}

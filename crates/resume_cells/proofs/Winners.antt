@@ -7,7 +7,7 @@ use Rattle.row_model.specs.ResumeWords as words
 use Rattle.row_model.specs.ResumeWords.{Arms, Decides, Woken, Cancelled}
 use Rattle.resume_cells.specs.Known.{waiting}
 use Rattle.resume_cells.specs.Laws.{decisions_of, Begins, IsDecided, DecidedOnce, FoundStays}
-use Rattle.resume_cells.proofs.Tests.{some_is, none-ne-some}
+use Rattle.resume_cells.proofs.Cases.{some_is, none-ne-some}
 use Rattle.resume_cells.proofs.Agreeing.{At, Fits, after}
 
 -- the wait that stands open has a stamp that isn't above the last one

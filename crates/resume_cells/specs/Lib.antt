@@ -7,3 +7,4 @@ pub mod Rule
 pub mod Plays
 pub mod Outcomes
 pub mod Laws
+pub mod Racing

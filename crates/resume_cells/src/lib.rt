@@ -14,6 +14,8 @@ mod cells;
 mod laws;
 mod rule;
 mod seat;
+#[cfg(test)]
+mod tests;
 mod view;
 
 pub use cells::{Cells, Decided};
