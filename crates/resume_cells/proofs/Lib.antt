@@ -12,3 +12,4 @@ pub mod Closing
 pub mod Winners
 pub mod Seen
 pub mod Racing
+pub mod Rows

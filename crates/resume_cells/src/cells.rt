@@ -151,15 +151,15 @@ impl Cells {
         ensures lost { IfLost result (λ word. (seat.new ≡ with_found seat.old who.cell word) × (word ≢ waiting who.armed)) }
         ensures woken { IfLost result (λ word. SaysWoken who.armed word) }
     {
-        let waiting = 4 * who.armed + WAITING;
+        let undecided = 4 * who.armed + WAITING;
         let shared = &self.table.shared;
         let word = shared.compare_exchange::<Cancels>(
             &mut seat.seat,
             who.cell as usize,
-            waiting,
+            undecided,
             4 * stamp + CANCELLED,
         );
-        outcome(word, waiting)
+        outcome(word, undecided)
     }
 
     /// The words as they are in the end. All seats come back, in the order of their numbers.
