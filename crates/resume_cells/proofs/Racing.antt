@@ -1,7 +1,8 @@
--- For the tests: a thousand cells are armed one by one, and cancelled one by one.
+-- For tests: cells are armed one by one, and cancelled one by one.
 use Rattle.std.proofs.Common.{◌≡◌, ◌≢◌, ℕ, ◌+◌, ◌/◌, ◌<◌, ◌≤◌, Bool, true, false, ◌&&◌, List, [], ◌∷◌, ◌==◌, refl, sym, ap, ◌∙◌, subst, arith, eq-eqb, ne_eqb, Option, Some, None}
 use Rattle.std.specs.Prelude.{if◌then◌else◌}
 use Rattle.std.specs.List.{list_any}
+use Rattle.std.proofs.Math.Nat.{div-eq_of_lt}
 use mathlib.Core.Logic.{dite}
 use native.Mathlib.Decide.{ℕ_discrete}
 use Rattle.resume_cells.specs.declared.view.Deed.TheVariants.{Cancel}
@@ -43,26 +44,27 @@ Can t cell stamp last = elim last [ None ↦ 0 < stamp | Some armed ↦ knows_be
 pub can_arm : (t : Told) (cell stamp : ℕ) → last_armed cell t.marks ≡ None → 0 < stamp → CanArm t cell stamp
 can_arm t cell stamp e some_stamp = subst (Can t cell stamp) (sym e) some_stamp
 
-pub owns : (s : Seated) (cell : ℕ) → s.number ≡ 0 → s.each ≡ 1000 → cell < 1000 → Owns s cell
-owns s cell first each lt = ap (λ (n : ℕ). cell / n) each ∙ (let e : cell / 1000 ≡ 0 = omega arith in e) ∙ sym first
+module _ (waits : ℕ) where
+  pub owns : (s : Seated) (cell : ℕ) → s.number ≡ 0 → s.each ≡ waits → cell < waits → Owns s cell
+  owns s cell first each lt = ap (λ (n : ℕ). cell / n) each ∙ div-eq_of_lt lt ∙ sym first
 
-pub are_waiting : (s : Seated) → s.number ≡ 0 → s.each ≡ 1000 → AreArmed s.told 1000 → AreWaiting s 0
-are_waiting s first each a cell _ lt = (owns s cell first each lt, (a.armed cell lt, a.kept cell))
+  pub are_waiting : (s : Seated) → s.number ≡ 0 → s.each ≡ waits → AreArmed s.told waits → AreWaiting waits s 0
+  are_waiting s first each a cell _ lt = (owns s cell first each lt, (a.armed cell lt, a.kept cell))
 
-cancelled_one : (s : Seated) (n : ℕ) → AreWaiting s n → AreWaiting (with_mark s (decision_of Cancel n 1 2)) (n + 1)
-cancelled_one s n w cell le lt = let old = w cell (omega arith) lt in (
-  old.0,
-  (
-    ap (λ (b : Bool). if b then Some 2 else last_armed cell s.told.marks) (and_right (n == cell) false refl) ∙ old.1.0,
-    or_false (cancels cell 1 (decision_of Cancel n 1 2)) _ (and_left (n == cell) _ (ne_eqb n cell (λ e. absurd (omega arith)))) old.1.1,
-  ),
-)
+  cancelled_one : (s : Seated) (n : ℕ) → AreWaiting waits s n → AreWaiting waits (with_mark s (decision_of Cancel n 1 2)) (n + 1)
+  cancelled_one s n w cell le lt = let old = w cell (omega arith) lt in (
+    old.0,
+    (
+      ap (λ (b : Bool). if b then Some 2 else last_armed cell s.told.marks) (and_right (n == cell) false refl) ∙ old.1.0,
+      or_false (cancels cell 1 (decision_of Cancel n 1 2)) _ (and_left (n == cell) _ (ne_eqb n cell (λ e. absurd (omega arith)))) old.1.1,
+    ),
+  )
 
--- the cells behind the one that was cancelled wait still
-pub waiting_on : (s s' : Seated) (n cell armed : ℕ) (d : Decided) → cell ≡ n → armed ≡ 1 → IfWon d (s' ≡ with_mark s (decision_of Cancel cell armed 2)) → IfLost d (λ word. (s' ≡ with_found s cell word) × (word ≢ waiting armed))
-    → AreWaiting s n → AreWaiting s' (n + 1)
-waiting_on s s' n cell armed Won its one won lost w = subst (λ x. AreWaiting x (n + 1)) (sym (won ∙ (λ i. with_mark s (decision_of Cancel (its i) (one i) 2)))) (cancelled_one s n w)
-waiting_on s s' n cell armed (Lost word) its one won lost w = subst (λ x. AreWaiting x (n + 1)) (sym lost.0) (λ c le lt. w c (omega arith) lt)
+  -- the cells behind the one that was cancelled wait still
+  pub waiting_on : (s s' : Seated) (n cell armed : ℕ) (d : Decided) → cell ≡ n → armed ≡ 1 → IfWon d (s' ≡ with_mark s (decision_of Cancel cell armed 2)) → IfLost d (λ word. (s' ≡ with_found s cell word) × (word ≢ waiting armed))
+      → AreWaiting waits s n → AreWaiting waits s' (n + 1)
+  waiting_on s s' n cell armed Won its one won lost w = subst (λ x. AreWaiting waits x (n + 1)) (sym (won ∙ (λ i. with_mark s (decision_of Cancel (its i) (one i) 2)))) (cancelled_one s n w)
+  waiting_on s s' n cell armed (Lost word) its one won lost w = subst (λ x. AreWaiting waits x (n + 1)) (sym lost.0) (λ c le lt. w c (omega arith) lt)
 
 pub same_table : (s s' : Seated) (m : Mark) (cell armed : ℕ) (d : Decided) → IfWon d (s' ≡ with_mark s m) → IfLost d (λ word. (s' ≡ with_found s cell word) × (word ≢ waiting armed)) → s'.table ≡ s.table
 same_table s s' m cell armed Won won lost = ap (λ (x : Seated). x.table) won

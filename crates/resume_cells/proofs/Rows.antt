@@ -1,8 +1,7 @@
 -- Worked marks, words and histories, computed by the prover.
-use Rattle.std.proofs.Common.{◌≡◌, ℕ, List, [], ◌∷◌, true, false, refl, inl, inr, arith, Some, None}
+use Rattle.std.proofs.Common.{◌≡◌, List, [], ◌∷◌, true, false, refl, inl, inr, arith, Some, None}
 use Rattle.row_model.specs.ResumeWords as words
-use Rattle.resume_cells.specs.declared.view.Deed.TheVariants.{Arm, Wake, Cancel}
-use Rattle.resume_cells.specs.declared.view.Mark.{Mark}
+use Rattle.resume_cells.specs.declared.view.Deed.TheVariants.{Wake, Cancel}
 use Rattle.resume_cells.specs.declared.view.Told.{Told}
 use Rattle.resume_cells.specs.declared.cells.Decided.TheVariants.{Won, Lost}
 use Rattle.resume_cells.specs.Marks.{Entry, word_of, IsHistory, of_cell, marks_by, AreByOwners}

@@ -86,7 +86,7 @@ struct Racer<'a> {
     cancels: bool,
     ghost fits: { seat.table ≡ cells.now.table },
     ghost room: { 1000 ≤ cells.now.count },
-    ghost waits: { cancels ≡ true → AreWaiting seat 0 },
+    ghost waits: { cancels ≡ true → AreWaiting 1000 seat 0 },
 }
 
 impl Racer<'_> {
@@ -102,9 +102,9 @@ impl Racer<'_> {
 
 fn arm_all(cells: &Cells, seat: &mut CellSeat)
     requires fits { (seat.old.table ≡ cells.now.table) × (1000 ≤ cells.now.count) }
-    requires new { IsFirstNew seat.old }
+    requires new { IsFirstNew 1000 seat.old }
     ensures same { seat.new.table ≡ seat.old.table }
-    ensures waits { AreWaiting seat.new 0 }
+    ensures waits { AreWaiting 1000 seat.new 0 }
 {
     for cell in 0..WAITS {
         cells.arm(seat, cell, 1);
@@ -113,7 +113,7 @@ fn arm_all(cells: &Cells, seat: &mut CellSeat)
 
 fn cancel_all(alloc: Global, cells: &Cells, mut seat: CellSeat) -> Result<Vec<bool>, AllocError>
     requires fits { (seat.table ≡ cells.now.table) × (1000 ≤ cells.now.count) }
-    requires waits { AreWaiting seat 0 }
+    requires waits { AreWaiting 1000 seat 0 }
 {
     let mut won = Vec::new(alloc);
     for cell in 0..WAITS {
@@ -141,7 +141,7 @@ fn racers_of(
     wakers: usize,
 ) -> Result<Vec<Racer>, NoMemory>
     requires room { 1000 ≤ cells.now.count }
-    requires owner { (owner.table ≡ cells.now.table) × AreWaiting owner 0 }
+    requires owner { (owner.table ≡ cells.now.table) × AreWaiting 1000 owner 0 }
     requires others { AreOf cells.now.table others.items }
 {
     let mut racers = Vec::new(alloc);

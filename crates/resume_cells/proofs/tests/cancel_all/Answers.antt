@@ -21,5 +21,5 @@ pub loop-cell-preserved : goal.loop-cell-preserved
 loop-cell-preserved c =
     let h = c.loop-cell.invariant in let w = c.waiter.ensures in let e = c.cancel.ensures in let who = c.waiter.result in (
       same_table c.loop-cell.seat c.cancel.new.seat (decision_of Cancel who.cell who.armed 2) who.cell who.armed c.cancel.result e.won e.lost ∙ h.0,
-      waiting_on c.loop-cell.seat c.cancel.new.seat c.loop-cell.cell who.cell who.armed c.cancel.result w.0 w.1 e.won e.lost h.1,
+      waiting_on 1000 c.loop-cell.seat c.cancel.new.seat c.loop-cell.cell who.cell who.armed c.cancel.result w.0 w.1 e.won e.lost h.1,
     )
