@@ -3,7 +3,7 @@
 //! The theorems are the clauses of the methods of [`Cells`]. What each step does to the log of all marks, and that it keeps the rule,
 //! stands in proofs/Deciding; what a caller learns is what its seat then knows.
 
-ghost use Rattle.std.specs.Prelude.{◌≡◌, ◌≢◌, ◌/◌, ◌^◌, ◌<◌, false, IfOk, length, vec_len};
+ghost use Rattle.std.specs.Prelude.{◌≡◌, ◌≢◌, ◌/◌, ◌^◌, ◌<◌, ◌≤◌, false, IfOk, length, vec_len};
 ghost use Rattle.std.specs.Mem.Slots.{slots_items, slots_len, IsFull};
 ghost use Rattle.resume_cells.specs.declared.view.Deed.TheVariants.{Wake, Cancel};
 ghost use Rattle.resume_cells.specs.Histories.{Histories};
@@ -84,7 +84,7 @@ fn copy(closed: &Closed<(), Global>, words: &mut [u64])
 impl Cells {
     /// So many cells, and so many seats of them in the order of their numbers. No other call takes memory.
     pub fn make(alloc: Global, cells: u32, seats: u8) -> Result<(Cells, Vec<CellSeat>), NoMemory>
-        requires some { (0 < cells) × (0 < seats) }
+        requires some { (0 < seats) × (seats ≤ cells) }
         ensures cells { IfOk result (λ made. (made.0.count ≡ cells) × (made.0.seats ≡ seats) × (made.0.each ≡ cells / seats)) }
         ensures seats { IfOk result (λ made. made.1.items ≡ new_seats made.0.table made.0.each 0 seats) }
     {

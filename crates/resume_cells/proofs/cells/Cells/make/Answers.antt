@@ -11,4 +11,4 @@ pub of_words-requires : goal.of_words-requires
 of_words-requires c =
     let plan : Plan = record { cells = c.args.cells; seats = c.from.result; each = c.args.cells / c.from-2.result } in
     subst (λ ws. Keeps plan (opening ws [] (first_view plan.each))) (sym (c.as_slice.ensures.value ∙ c.in_ok-words.ensures.items_if_clones_equal (λ y e. e)))
-    (opens plan (subst (λ (n : ℕ). 0 < n) (sym c.from.ensures) c.requires.some.1))
+    (opens plan (subst (λ (n : ℕ). 0 < n) (sym c.from.ensures) c.requires.some.0))
