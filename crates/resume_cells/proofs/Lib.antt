@@ -1,0 +1,15 @@
+pub mod Cases
+pub mod Marks
+pub mod Fresh
+pub mod Lasts
+pub mod Arming
+pub mod Keeping
+pub mod Deciding
+pub mod Outcomes
+pub mod Dealing
+pub mod Agreeing
+pub mod Closing
+pub mod Winners
+pub mod Seen
+pub mod Racing
+pub mod Rows
