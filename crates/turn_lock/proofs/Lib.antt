@@ -1,0 +1,5 @@
+pub mod Views
+pub mod Numbering
+pub mod Turns
+pub mod Dealing
+pub mod Gathering

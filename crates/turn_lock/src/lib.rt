@@ -1,0 +1,10 @@
+//! A value that threads take in turns, and the one history that it stands for.
+#![tactic(auto)]
+
+mod kept;
+mod rule;
+mod turn;
+mod view;
+
+pub use kept::{Kept, Names};
+pub use turn::{Pass, PassOf, Turn};
