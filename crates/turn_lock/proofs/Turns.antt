@@ -16,7 +16,7 @@ use Rattle.turn_lock.specs.Numbers.{total, weight}
 use Rattle.turn_lock.specs.Rule.{waiting, Fits, IsPlaced, Kept}
 use Rattle.turn_lock.specs.Steps.{Draws, Looks, Leaves, given_on}
 use Rattle.turn_lock.specs.Passes.{Adds}
-use Rattle.turn_lock.proofs.Views.{at_below, not_both, is_false, each_set, total_set, total_less, waits_one, waits_none, entries-push, longer_by}
+use Rattle.turn_lock.proofs.Views.{at_below, not_both, is_false, each_set, total_set, total_less, waits_one, waits_none, entries-push, entries_length, longer_by}
 use Rattle.turn_lock.proofs.Numbering.{keeps_numbers, adds_numbers}
 
 -- one of the two words changes
@@ -240,7 +240,7 @@ module _ {E S : Type 0} (stands : S → List E → Type 0) where
         takes 0 (Some home.0),
         ap (λ (hs : List (Option (Maybe S))). get_elem? hs 0) home.1,
         takes_slot passes id me s k at waits is small home.0 home.1 home.3,
-        (λ _. (home.0, entries k.log, refl, refl, home.2, (k.fits id me.0 at).seen), λ no. absurd (no (is, small))),
+        (λ _. (home.0, entries k.log, refl, refl, home.2, (k.fits id me.0 at).seen, subst (λ (m : ℕ). m < 2 ^ 62) (k.served ∙ sym (entries_length k.log)) small), λ no. absurd (no (is, small))),
       ))
       (λ out. let h = (k.fits out.0 out.1 out.3).holds out.4 in
       let one : out.0 ≡ id = k.apart out.0 id out.1 me.0 out.3 at h.0 waits (h.1 ∙ sym k.served ∙ is) in

@@ -83,6 +83,10 @@ module _ {E : Type 0} where
   entries-push [] i e = refl
   entries-push (x ∷ xs) i e = ap (λ (ys : List E). x.1 ∷ ys) (entries-push xs i e)
 
+  pub entries_length : (log : List (ℕ × E)) → length (entries log) ≡ length log
+  entries_length [] = refl
+  entries_length (x ∷ xs) = ap suc (entries_length xs)
+
   pub by_here : (log : List (ℕ × E)) (i : ℕ) (e : E) → entries_by i (log ++ (i, e) ∷ []) ≡ entries_by i log ++ e ∷ []
   by_here [] i e = rw (eq-eqb i i refl) refl
   by_here (x ∷ xs) i e = go (x.0 == i) (by_here xs i e)

@@ -1,5 +1,5 @@
 -- What each step on a turn tells the pass that makes it.
-use Rattle.std.specs.Prelude.{◌≡◌, ℕ, ◌+◌, ◌-◌, ◌^◌, ◌<◌, true, false, List, [], ◌∷◌, ◌++◌, Some, None}
+use Rattle.std.specs.Prelude.{length, ◌≡◌, ℕ, ◌+◌, ◌-◌, ◌^◌, ◌<◌, true, false, List, [], ◌∷◌, ◌++◌, Some, None}
 use Rattle.std.specs.Prelude.{Option as Maybe}
 use Rattle.atomic_table.specs.Table.{Step, Me}
 use Rattle.turn_lock.specs.declared.view.View.{View}
@@ -34,10 +34,10 @@ module _ {E : Type 0} where
     Leaves e s me found after = (after.0 ≡ given_on me.0 e) × (after.1 ≡ [])
 
     module _ (stands : S → List E → Type 0) where
-      -- the pass is served: it has the slot, whose value stands for all that it has now seen
+      -- the pass is served: it has the slot, whose value stands for all that it has now seen, which is less than the limit
       abbrev pub Takes : Me (Maybe S) (View E) → Me (Maybe S) (View E) → Type 0
       Takes me after =
-          (x : S) × (seen : List E) × (after.0 ≡ record me.0 { holds = true; seen = seen }) × (after.1 ≡ (0, Some x) ∷ me.1) × stands x seen × StartsWith seen me.0.seen
+          (x : S) × (seen : List E) × (after.0 ≡ record me.0 { holds = true; seen = seen }) × (after.1 ≡ (0, Some x) ∷ me.1) × stands x seen × StartsWith seen me.0.seen × (length seen < 2 ^ 62)
 
       -- it is served where the number found is its ticket, or nothing has changed
       abbrev pub Looks : Step (Maybe S) → Me (Maybe S) (View E) → ℕ → Me (Maybe S) (View E) → Type 0

@@ -2,6 +2,7 @@
 #![tactic(auto)]
 
 mod kept;
+pub mod numbers;
 mod rule;
 mod turn;
 mod view;

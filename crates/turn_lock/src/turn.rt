@@ -1,6 +1,6 @@
 //! The turn and its passes.
 
-ghost use Rattle.std.specs.Prelude.{◌≡◌, ℕ, ◌+◌, ◌<◌, ◌≤◌, true, false, List, [], ◌∷◌, ◌++◌, Option, Some, None, IfOk, All, length, vec_len, vec_capacity};
+ghost use Rattle.std.specs.Prelude.{◌≡◌, ℕ, ◌+◌, ◌<◌, ◌≤◌, true, false, List, [], ◌∷◌, ◌++◌, ◌^◌, Option, Some, None, IfOk, All, length, vec_len, vec_capacity};
 ghost use Rattle.turn_lock.specs.History.{StartsWith};
 ghost use Rattle.turn_lock.specs.Passes.{AreFresh, Adds, left_with};
 ghost use Rattle.turn_lock.specs.Closing.{Closes};
@@ -134,6 +134,7 @@ impl<V: Kept> Turn<V> {
         requires free { pass.old.holds ≡ false }
         ensures value { V.stands result 0 pass.new.seen }
         ensures seen { StartsWith pass.new.seen pass.old.seen }
+        ensures few { length pass.new.seen < 2 ^ 62 }
         ensures same { pass.new ≡ record pass.old { seen = pass.new.seen; holds = true } }
     {
         let ticket = self
