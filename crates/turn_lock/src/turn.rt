@@ -99,6 +99,8 @@ impl<V: Kept> Turn<V> {
         requires empty { V.stands value 0 [] }
         ensures turn { IfOk result (λ made. made.0.passes ≡ passes) }
         ensures passes { IfOk result (λ made. (vec_len made.1 ≡ passes) × AreFresh made.0.id 0 made.1.items) }
+        ensures theirs { IfOk result (λ made. All (λ p. p.turn ≡ made.0.id) made.1.items) }
+        ensures free { IfOk result (λ made. All (λ p. p.holds ≡ false) made.1.items) }
     {
         let mut dealt = Vec::with_capacity(alloc, usize::from(passes))?;
         let mut slots = Vec::with_capacity(alloc, 1)?;
@@ -117,7 +119,9 @@ impl<V: Kept> Turn<V> {
         requires first { first.me ≡ (first_view passes, []) }
         requires some { 0 < passes }
         requires room { (dealt.old.items ≡ []) × (passes ≤ vec_capacity dealt.old) }
-        ensures { (vec_len dealt.new ≡ passes) × AreFresh self.now.id 0 dealt.new.items }
+        ensures passes { (vec_len dealt.new ≡ passes) × AreFresh self.now.id 0 dealt.new.items }
+        ensures theirs { All (λ p. p.turn ≡ self.now.id) dealt.new.items }
+        ensures free { All (λ p. p.holds ≡ false) dealt.new.items }
     {
         let mut seat = first;
         for _made in 0..passes - 1 {

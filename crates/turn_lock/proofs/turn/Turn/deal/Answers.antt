@@ -1,5 +1,6 @@
-use Rattle.std.proofs.Common.{◌≡◌, ℕ, ◌+◌, ◌-◌, List, [], ◌∷◌, ◌++◌, length, sym, ap, ◌∙◌, subst, arith}
+use Rattle.std.proofs.Common.{All, false, ◌≡◌, ℕ, ◌+◌, ◌-◌, List, [], ◌∷◌, ◌++◌, length, sym, ap, ◌∙◌, subst, arith}
 use Rattle.std.specs.Prelude.{Option as Maybe}
+use Rattle.std.proofs.lemmas.List.Elements.{All-nil, All-cons}
 use Rattle.atomic_table.specs.Seated.{TableId}
 use Rattle.atomic_table.specs.Table.{Me}
 use Rattle.turn_lock.specs.declared.view.View.{View}
@@ -45,8 +46,12 @@ loop-made-preserved g c =
           (view_fresh c.split_seat-next.new.seat.me c.split_seat-next.new.seat.table_id c.args.self.now.id c.loop-made._made 0 (x.0 ∙ h.0) (x.2 ∙ ap (λ m. (dealer m.0, m.1)) h.1) ∙ ap (fresh_pass c.args.self.now.id) (omega arith))),
     )
 
-pub returns : goal.returns
-returns g c =
+fresh_at : {E : Type 0} (t : TableId) (n : ℕ) (ps : List (PassView E)) → AreFresh t n ps → All (λ p. (p.turn ≡ t) × (p.holds ≡ false)) ps
+fresh_at t n [] h = All-nil (λ p. (p.turn ≡ t) × (p.holds ≡ false))
+fresh_at t n (p ∷ ps) h = All-cons (λ p. (p.turn ≡ t) × (p.holds ≡ false)) p ps (ap (λ p. p.turn) h.0, ap (λ p. p.holds) h.0) (fresh_at t (n + 1) ps h.1)
+
+pub returns-clause-passes : goal.returns-clause-passes
+returns-clause-passes g c =
     let h = c.loop-made.invariant in
     let many = h.2 in
     let more = c.push_reserved-2.ensures.len in
@@ -60,3 +65,9 @@ returns g c =
           (fresh-push c.args.self.now.id 0 c.loop-made.dealt.items _ h.4
           (view_fresh c.loop-made.seat.me c.loop-made.seat.table_id c.args.self.now.id c.loop-made._made _ h.0 h.1 ∙ ap (fresh_pass c.args.self.now.id) (omega arith))),
     )
+
+pub returns-clause-theirs : goal.returns-clause-theirs
+returns-clause-theirs g c = λ k d lt. (fresh_at c.args.self.now.id 0 c.push_reserved-2.new.self.items (returns-clause-passes g c).1 k d lt).0
+
+pub returns-clause-free : goal.returns-clause-free
+returns-clause-free g c = λ k d lt. (fresh_at c.args.self.now.id 0 c.push_reserved-2.new.self.items (returns-clause-passes g c).1 k d lt).1
