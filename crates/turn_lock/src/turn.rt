@@ -16,7 +16,7 @@ use eio_value::NoMemory;
 use std::alloc::Global;
 use std::marker::Model;
 use std::sync::Wait;
-use std::thread;
+use std::{hint, thread};
 
 /// The word that counts the tickets that were drawn.
 const DRAWN: usize = 0;
@@ -26,6 +26,9 @@ const SERVED: usize = 16;
 
 /// How many words there are; those between the two lie idle.
 const WORDS: usize = 17;
+
+/// How often a pass looks before it leaves the processor to others.
+const SPINS: u32 = 100;
 
 /// The ticket that is never served.
 const MOST: u64 = 1 << 62;
@@ -159,12 +162,18 @@ impl<V: Kept> Turn<V> {
         ensures turn { seat.new.table_id ≡ seat.old.table_id }
         ensures takes { Takes (λ x. V.stands x 0) seat.old.me seat.new.me }
     {
+        let mut looks = 0;
         for _ in rt.forever() {
             let found = self.table.shared.load::<Look<V>>(seat, SERVED);
             if found == ticket && found < MOST {
                 return;
             }
-            thread::yield_now();
+            if looks < SPINS {
+                looks += 1;
+                hint::spin_loop();
+            } else {
+                thread::yield_now();
+            }
         }
         unreachable!()
     }
