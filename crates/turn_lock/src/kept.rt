@@ -8,11 +8,13 @@ use std::marker::Brand;
 pub trait Kept {
     type Entry;
 
-    /// Of the value, the number of the first entry and the entries.
+    /// Of the value, the number of the first entry, which is 0 for a turn, and the entries. By the number a meaning can be
+    /// a recursion over the list, whose rest has a first entry of its own.
     ghost stands: { Self → ℕ → List Self.Entry → Type 0 };
 }
 
-/// The entry that a call of `leave` adds. It takes no bytes: the call passes [`Brand`], and its proof picks the entry.
+/// The entry that a call of `leave` adds. It takes no bytes: a call of a function that is generic in it passes [`Brand`],
+/// and the proof of that call picks the entry, by the arguments of the call (`numbers::push` does so).
 pub trait Names<E> {
     ghost entry: { Option E };
 }

@@ -1,7 +1,6 @@
 //! A worked caller: a list of numbers that threads push to in turns.
 //!
-//! Memory is taken before the turn, so no thread holds it where memory is refused. [`merge`] carries the theorem of the
-//! whole: each row's numbers stand in the list in their order, and nothing else does.
+//! Memory is taken before the turn, so no thread holds the turn where memory is refused. The list is the history itself.
 
 ghost use Rattle.std.specs.Prelude.{◌≡◌, ◌∷◌, [], ◌++◌, ◌<◌, true, false, Option, Some, OnOk, OnErr, IfSome, IfNone};
 ghost use Rattle.turn_lock.specs.Passes.{left_with};

@@ -1,4 +1,14 @@
 //! The turn and its passes.
+//!
+//! A pass draws a ticket, looks until its number is the one that is served, and takes the value out of the one slot. To
+//! leave, it puts the value back and counts the number that is served up by one; that step adds the entry to the history,
+//! which exists in the proof alone.
+//!
+//! The invariant (`Kept` in specs/Rule): the number that is served is the length of the history; the tickets that are out
+//! are different, none is below that number, and with it they make up the next number. The slot has a value that stands
+//! for the history while nobody holds the turn; else one pass holds it, has seen the whole history, and the slot is out
+//! with it. Every pass has seen a front of the history. No two passes have one number, and the entries of a number are
+//! those that its pass has made.
 
 ghost use Rattle.std.specs.Prelude.{◌≡◌, ℕ, ◌+◌, ◌<◌, ◌≤◌, true, false, List, [], ◌∷◌, ◌++◌, ◌^◌, Option, Some, None, IfOk, All, length, vec_len, vec_capacity};
 ghost use Rattle.turn_lock.specs.History.{StartsWith};
@@ -91,10 +101,10 @@ impl<V: Kept> Model for Turn<V> {
 type SeatOf<V> = Seat<Option<V>, View<<V as Kept>::Entry>>;
 
 impl<V: Kept> Turn<V> {
-    /// A turn over a value that stands for no entries yet, and all its passes, with the numbers from 0.
+    /// A turn over a value that stands for no entries yet, and all its passes, in the order of their numbers, from 0.
     ///
     /// # Errors
-    /// [`NoMemory`]; the value is then gone.
+    /// [`NoMemory`]; the value is then let go.
     pub fn make(alloc: Global, value: V, passes: u8) -> Result<(Turn<V>, Vec<Pass<V>>), NoMemory>
     where
         V: Drop,
@@ -136,6 +146,9 @@ impl<V: Kept> Turn<V> {
     }
 
     /// Waits for its turn, and gives the value, which stands for all that this pass has then seen.
+    ///
+    /// It waits as long as others have the turn or drew their tickets before, and for good where the turn was given on 2^62
+    /// times. A thread that waits here can't be called away: its ticket stands, and those behind it wait for it.
     pub fn enter<R: Wait>(&self, rt: &R, pass: &mut Pass<V>) -> V
         requires turn { pass.old.turn ≡ self.now.id }
         requires free { pass.old.holds ≡ false }
@@ -178,7 +191,8 @@ impl<V: Kept> Turn<V> {
         unreachable!()
     }
 
-    /// Gives the turn on. The value stands for all that was seen, and one entry more.
+    /// Gives the turn on. The value stands for all that was seen and one entry more, which `N` names. It neither waits nor
+    /// takes memory.
     pub fn leave<N: Names<V::Entry>>(&self, pass: &mut Pass<V>, value: V)
         requires turn { pass.old.turn ≡ self.now.id }
         requires held { pass.old.holds ≡ true }
@@ -192,7 +206,7 @@ impl<V: Kept> Turn<V> {
             .fetch_add::<Leave<N>>(&mut pass.seat, SERVED, 1);
     }
 
-    /// Gives the value back.
+    /// Ends the turn, and gives the value, which stands for the whole history.
     pub fn close(self, passes: Vec<Pass<V>>) -> V
         requires all { vec_len passes ≡ self.passes }
         requires turn { All (λ p. p.turn ≡ self.id) passes.items }
