@@ -9,7 +9,7 @@ use Rattle.atomic_table.specs.Table.{opening, Splits, Joins}
 use Rattle.atomic_table.proofs.Lists.{set_here, set_else, at_longer, at_last}
 use Rattle.turn_lock.specs.declared.view.View.{View}
 use Rattle.turn_lock.specs.declared.view.Ended.{Ended}
-use Rattle.turn_lock.specs.History.{entries, StartsWith}
+use Rattle.turn_lock.specs.History.{StartsWith}
 use Rattle.turn_lock.specs.Numbers.{weight, Owns, Has, IsEnded, Counts, Numbered}
 use Rattle.turn_lock.specs.Rule.{waiting, first_view, Fits, Kept}
 use Rattle.turn_lock.specs.Steps.{dealer, dealt, taking_in, spent}
@@ -139,7 +139,7 @@ module _ {E : Type 0} where
         (subst (λ (z : View E). Has z n) is h))
         (λ away. unheld by u (at_others_joined by u ne' away at') h))
 
-    pub joins_numbers : (passes : ℕ) → StartsWith (entries log) w.seen → Numbered log views passes → Numbered log after_join passes
+    pub joins_numbers : (passes : ℕ) → StartsWith log w.seen → Numbered log views passes → Numbered log after_join passes
     joins_numbers passes seen k = let c = k.counts id v at live in let own = k.counts other w at_other other_live in
         let own_number : Owns w w.number = (other_live, omega arith, omega arith) in record {
           all = (let t = total_set weight views id v (taking_in v w) at in
@@ -164,7 +164,7 @@ module _ {E : Type 0} where
           nobody = λ n unheld. k.nobody n (nobody_joined n unheld);
         }
 
-  module _ {S : Type 0} (stands : S → List E → Type 0) where
+  module _ {S : Type 0} (stands : S → List (ℕ × E) → Type 0) where
     pub opens : (passes : ℕ) (words : List ℕ) (x : S) → 0 < passes → passes ≤ 2 ^ 61 → length words ≡ 17 → slice_index words 0 ≡ 0 → slice_index words 16 ≡ 0 → stands x []
         → Kept stands passes (opening words (Some x ∷ []) (first_view passes))
     opens passes words x some_pass room long drawn served ok = let v : View E = first_view passes in record {
@@ -208,7 +208,7 @@ module _ {E : Type 0} where
               k.placed;
           fits = each (λ by u. Fits k.log (slice_index s.words 0) u)
               (let was = k.fits id v at in record { seen = was.seen; ticket = was.ticket; holds = was.holds })
-              (record { seen = (entries k.log, refl); ticket = λ bad. not_both false bad refl; holds = λ bad. not_both false bad refl })
+              (record { seen = (k.log, refl); ticket = λ bad. not_both false bad refl; holds = λ bad. not_both false bad refl })
               (λ by u ne at'. k.fits by u at');
           apart = λ i j a b at_i at_j wa wb eq. let P : ℕ → View E → Type 0 = λ by u. u.waits ≡ true → (o : View E) × (get_elem? s.views by ≡ some o) × (o.waits ≡ true) × (o.ticket ≡ u.ticket) in
               let old = each P (λ its. (v, at, its, refl)) (λ bad. not_both false bad refl) (λ by u ne at' its. (u, at', its, refl)) in
@@ -243,7 +243,7 @@ module _ {E : Type 0} where
               k.placed;
           fits = each (λ by u. Fits k.log (slice_index s.words 0) u)
               (let was = k.fits id v at in record { seen = was.seen; ticket = was.ticket; holds = was.holds })
-              (record { seen = (entries k.log, refl); ticket = λ bad. not_both false bad refl; holds = λ bad. not_both false bad refl })
+              (record { seen = (k.log, refl); ticket = λ bad. not_both false bad refl; holds = λ bad. not_both false bad refl })
               (λ by u ne' away at'. k.fits by u at');
           apart = λ i j a b at_i at_j wa wb eq. let P : ℕ → View E → Type 0 = λ by u. u.waits ≡ true → (o : View E) × (get_elem? s.views by ≡ some o) × (o.waits ≡ true) × (o.ticket ≡ u.ticket) in
               let old = each P (λ its. (v, at, its, refl)) (λ bad. not_both false bad refl) (λ by u ne' away at' its. (u, at', its, refl)) in

@@ -11,7 +11,7 @@ use Rattle.atomic_table.specs.Table.{State, Final, Seen}
 use Rattle.atomic_table.proofs.Lists.{at_longer, at_last, at_snoc}
 use Rattle.turn_lock.specs.declared.view.View.{View}
 use Rattle.turn_lock.specs.declared.view.Ended.{Ended}
-use Rattle.turn_lock.specs.History.{entries, entries_by, StartsWith}
+use Rattle.turn_lock.specs.History.{entries_by, StartsWith}
 use Rattle.turn_lock.specs.Numbers.{total, weight, Owns, Has, Numbered}
 use Rattle.turn_lock.specs.Rule.{Kept}
 use Rattle.turn_lock.specs.Passes.{PassView}
@@ -42,7 +42,7 @@ module _ {E : Type 0} where
       (λ (e : ended_of p ≡ x). subst Q e (All-head (λ p. Q (ended_of p)) p ps h))
       (at_snoc (backwards ps) (ended_of p) x k at)
 
-  module _ {S : Type 0} (stands : S → List E → Type 0) where
+  module _ {S : Type 0} (stands : S → List (ℕ × E) → Type 0) where
     -- the value is at home, and what closing says holds of it
     pub closes : (passes id : ℕ) (v : View E) (ps : List (PassView E)) (s : State (Maybe S) (View E)) → Kept stands passes s → get_elem? s.views id ≡ some v
         → v.live ≡ true → v.ahead ≡ 0 → v.holds ≡ false → known_to v ≡ backwards ps → length ps ≡ passes
@@ -55,7 +55,7 @@ module _ {E : Type 0} where
             log = k.log;
             value = home.2;
             mine = of_all (λ x. entries_by x.number k.log ≡ x.mine) ps (λ i x at'. (each i x (subst (λ (l : List (Ended E)). get_elem? l i ≡ some x) (sym knows) at')).0);
-            seen = of_all (λ x. StartsWith (entries k.log) x.seen) ps (λ i x at'. (each i x (subst (λ (l : List (Ended E)). get_elem? l i ≡ some x) (sym knows) at')).1);
+            seen = of_all (λ x. StartsWith k.log x.seen) ps (λ i x at'. (each i x (subst (λ (l : List (Ended E)). get_elem? l i ≡ some x) (sym knows) at')).1);
             others = λ n apart. k.numbered.nobody n (nobody n (to_all (λ x. x.number ≢ n) ps apart));
           },
         ))
@@ -78,8 +78,8 @@ module _ {E : Type 0} where
         counts : Rattle.turn_lock.specs.Numbers.Counts k.log s.views v
         counts = k.numbered.counts id v at live
 
-        each : (i : ℕ) (x : Ended E) → get_elem? (known_to v) i ≡ some x → (entries_by x.number k.log ≡ x.mine) × StartsWith (entries k.log) x.seen
-        each zero x at' = subst (λ (x : Ended E). (entries_by x.number k.log ≡ x.mine) × StartsWith (entries k.log) x.seen) (some-injective _ x at') (counts.mine, (k.fits id v at).seen)
+        each : (i : ℕ) (x : Ended E) → get_elem? (known_to v) i ≡ some x → (entries_by x.number k.log ≡ x.mine) × StartsWith k.log x.seen
+        each zero x at' = subst (λ (x : Ended E). (entries_by x.number k.log ≡ x.mine) × StartsWith k.log x.seen) (some-injective _ x at') (counts.mine, (k.fits id v at).seen)
         each (suc i) x at' = let d = counts.ended i x at' in (d.mine, d.seen)
 
         nobody : (n : ℕ) → ((i : ℕ) (x : Ended E) → get_elem? (backwards ps) i ≡ some x → x.number ≢ n) → (by : ℕ) (u : View E) → get_elem? s.views by ≡ some u → Has u n → ⊥

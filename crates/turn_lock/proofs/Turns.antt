@@ -11,12 +11,11 @@ use lib.ListN.{get_elem?}
 use Rattle.atomic_table.specs.Table.{State, Me, step, gives, keeps, takes, stepped, Allows}
 use Rattle.atomic_table.proofs.Lists.{set_else, set_here, set_again}
 use Rattle.turn_lock.specs.declared.view.View.{View}
-use Rattle.turn_lock.specs.History.{entries}
 use Rattle.turn_lock.specs.Numbers.{total, weight}
 use Rattle.turn_lock.specs.Rule.{waiting, Fits, IsPlaced, Kept}
 use Rattle.turn_lock.specs.Steps.{Draws, Looks, Leaves, given_on}
 use Rattle.turn_lock.specs.Passes.{Adds}
-use Rattle.turn_lock.proofs.Views.{at_below, not_both, is_false, each_set, total_set, total_less, waits_one, waits_none, entries-push, entries_length, longer_by}
+use Rattle.turn_lock.proofs.Views.{at_below, not_both, is_false, each_set, total_set, total_less, waits_one, waits_none, longer}
 use Rattle.turn_lock.proofs.Numbering.{keeps_numbers, adds_numbers}
 
 -- one of the two words changes
@@ -31,7 +30,7 @@ set_same [] i = refl
 set_same (x ∷ xs) zero = refl
 set_same (x ∷ xs) (suc i) = ap (λ (ys : List ℕ). x ∷ ys) (set_same xs i)
 
-module _ {E S : Type 0} (stands : S → List E → Type 0) where
+module _ {E S : Type 0} (stands : S → List (ℕ × E) → Type 0) where
   -- who waits is at work, so no more tickets are out than there are passes
   tickets_few : (passes : ℕ) (s : State (Maybe S) (View E)) → Kept stands passes s → total waiting s.views ≤ passes
   tickets_few passes s k = let all = k.numbered.all in
@@ -49,7 +48,7 @@ module _ {E S : Type 0} (stands : S → List E → Type 0) where
       (λ out. (out.2, λ by w at' h'. out.5 by w at' h' ∙ sym (out.5 id v at h)))
       p
 
-  leaves : (passes slots id : ℕ) (v : View E) (x : S) (e : E) → v.holds ≡ true → stands x (v.seen ++ e ∷ [])
+  leaves : (passes slots id : ℕ) (v : View E) (x : S) (e : E) → v.holds ≡ true → stands x (v.seen ++ (v.number, e) ∷ [])
       → Allows (Kept stands passes) slots id (v, (0, Some x) ∷ []) 16 (λ n. (n + 1) % 2 ^ 64) (Leaves (Some e) (step slots 16 1 0 none) (v, (0, Some x) ∷ []))
   leaves passes slots id v x e h ok s k _ at _ =
       let was = k.fits id v at in
@@ -79,17 +78,17 @@ module _ {E S : Type 0} (stands : S → List E → Type 0) where
           placed = inl (
             x,
             ap (λ (hs : List (Option (Maybe S))). set hs 0 (some (Some x))) who.0,
-            subst (stands x) (ap (λ (l : List E). l ++ e ∷ []) mine.2 ∙ sym (entries-push k.log v.number e)) ok,
+            subst (stands x) (ap (λ (l : List (ℕ × E)). l ++ (v.number, e) ∷ []) mine.2) ok,
             each_set (λ by u. u.holds ≡ false) s.views id w refl (λ by u ne at'. is_false u.holds (λ held. ne (who.1 by u at' held))),
           );
           fits = each_set (λ by u. Fits log' (slice_index (set s.words 16 ((n + 1) % 2 ^ 64)) 0) u) s.views id w
               (record {
-                seen = ([], entries-push k.log v.number e ∙ ap (λ (l : List E). l ++ e ∷ []) (sym mine.2) ∙ sym (append-nil (v.seen ++ e ∷ [])));
+                seen = ([], ap (λ (l : List (ℕ × E)). l ++ (v.number, e) ∷ []) (sym mine.2) ∙ sym (append-nil (v.seen ++ (v.number, e) ∷ [])));
                 ticket = λ bad. not_both false bad refl;
                 holds = λ bad. not_both false bad refl;
               })
               (λ by u ne at'. let its = k.fits by u at' in record {
-                seen = longer_by k.log u.seen v.number e its.seen;
+                seen = longer k.log u.seen v.number e its.seen;
                 ticket = λ waits. let r = its.ticket waits in (
                   r.0,
                   dite (ℕ_discrete u.ticket (length k.log)) (λ z. absurd (ne (k.apart by id u v at' at waits mine.0 (z ∙ sym mine.1)))) (λ z. let r1 = r.1 in omega arith),
@@ -106,7 +105,7 @@ module _ {E S : Type 0} (stands : S → List E → Type 0) where
       )
 
   -- the turn is given on with the entry that is named
-  pub leaves_named : (passes slots id : ℕ) (me : Me (Maybe S) (View E)) (v : View E) (x : S) (n : Maybe E) → me ≡ (v, (0, Some x) ∷ []) → v.holds ≡ true → Adds stands v.seen x n
+  pub leaves_named : (passes slots id : ℕ) (me : Me (Maybe S) (View E)) (v : View E) (x : S) (n : Maybe E) → me ≡ (v, (0, Some x) ∷ []) → v.holds ≡ true → Adds stands v.number v.seen x n
       → Allows (Kept stands passes) slots id me 16 (λ k. (k + 1) % 2 ^ 64) (Leaves n (step slots 16 1 0 none) me)
   leaves_named passes slots id me v x None is h ok = absurd ok
   leaves_named passes slots id me v x (Some e) is h ok = subst (λ (m : Me (Maybe S) (View E)). Allows (Kept stands passes) slots id m 16 (λ k. (k + 1) % 2 ^ 64) (Leaves (Some e) (step slots 16 1 0 none) m)) (sym is)
@@ -185,11 +184,11 @@ module _ {E S : Type 0} (stands : S → List E → Type 0) where
   takes_slot : (passes id : ℕ) (me : Me (Maybe S) (View E)) (s : State (Maybe S) (View E)) (k : Kept stands passes s) → get_elem? s.views id ≡ some me.0
       → me.0.waits ≡ true → slice_index s.words 16 ≡ me.0.ticket → slice_index s.words 16 < 2 ^ 62
       → (x : S) → s.homes ≡ some (Some x) ∷ [] → ((by : ℕ) (v : View E) → get_elem? s.views by ≡ some v → v.holds ≡ false)
-      → Kept stands passes (stepped s 16 (slice_index s.words 16) id me.1 (record me.0 { holds = true; seen = entries k.log }) (takes 0 (Some x)))
+      → Kept stands passes (stepped s 16 (slice_index s.words 16) id me.1 (record me.0 { holds = true; seen = k.log }) (takes 0 (Some x)))
   takes_slot passes id me s k at waits is small x home none_holds =
       let v : View E = me.0 in
       let was = k.fits id v at in
-      let w : View E = record v { holds = true; seen = entries k.log } in
+      let w : View E = record v { holds = true; seen = k.log } in
       let n : ℕ = slice_index s.words 16 in
       let words' = set_same s.words 16 in
       let word0 : slice_index (set s.words 16 n) 0 ≡ slice_index s.words 0 = ap (λ (ws : List ℕ). slice_index ws 0) words' in
@@ -211,7 +210,7 @@ module _ {E S : Type 0} (stands : S → List E → Type 0) where
         );
         fits = each_set (λ by u. Fits k.log (slice_index (set s.words 16 n) 0) u) s.views id w
             (record {
-              seen = ([], sym (append-nil (entries k.log)));
+              seen = ([], sym (append-nil k.log));
               ticket = λ _. let r = was.ticket waits in (r.0, r.1, subst (λ (m : ℕ). v.ticket < m) (sym word0) r.2);
               holds = λ _. (waits, sym is ∙ k.served, refl, omega arith);
             })
@@ -236,11 +235,11 @@ module _ {E S : Type 0} (stands : S → List E → Type 0) where
       (λ is. dite (dec_le (suc n) (2 ^ 62))
       (λ small. ⊎_elim
       (λ home. (
-        record me.0 { holds = true; seen = entries k.log },
+        record me.0 { holds = true; seen = k.log },
         takes 0 (Some home.0),
         ap (λ (hs : List (Option (Maybe S))). get_elem? hs 0) home.1,
         takes_slot passes id me s k at waits is small home.0 home.1 home.3,
-        (λ _. (home.0, entries k.log, refl, refl, home.2, (k.fits id me.0 at).seen, subst (λ (m : ℕ). m < 2 ^ 62) (k.served ∙ sym (entries_length k.log)) small), λ no. absurd (no (is, small))),
+        (λ _. (home.0, k.log, refl, refl, home.2, (k.fits id me.0 at).seen, subst (λ (m : ℕ). m < 2 ^ 62) k.served small, (k.numbered.counts id me.0 at ((k.fits id me.0 at).ticket waits).0).mine), λ no. absurd (no (is, small))),
       ))
       (λ out. let h = (k.fits out.0 out.1 out.3).holds out.4 in
       let one : out.0 ≡ id = k.apart out.0 id out.1 me.0 out.3 at h.0 waits (h.1 ∙ sym k.served ∙ is) in

@@ -10,11 +10,11 @@ pub record TurnView : Type 0 where
   pub id : TableId
   pub passes : ℕ
 
--- A pass: of which turn it is, and which of its passes; what it has seen of the history, the entries that it made itself, and whether it holds the turn
+-- A pass: of which turn it is, and which of its passes; what it has seen of the history, each entry beside the number of the pass that made it, the entries that it made itself, and whether it holds the turn
 pub record PassView (E : Type 0) : Type 0 where
   pub turn : TableId
   pub number : ℕ
-  pub seen : List E
+  pub seen : List (ℕ × E)
   pub mine : List E
   pub holds : Bool
 
@@ -32,15 +32,15 @@ module _ {E : Type 0} where
   AreFresh turn number [] = Unit {0}
   AreFresh turn number (p ∷ ps) = (p ≡ fresh_pass turn number) × AreFresh turn (number + 1) ps
 
-  -- the value stands for what was seen with the named entry behind it
-  abbrev pub Adds : {S : Type 0} → (S → List E → Type 0) → List E → S → Maybe E → Type 0
-  Adds stands seen x None = ⊥
-  Adds stands seen x (Some e) = stands x (seen ++ e ∷ [])
+  -- the value stands for what was seen with the named entry behind it, made by the pass with this number
+  abbrev pub Adds : {S : Type 0} → (S → List (ℕ × E) → Type 0) → ℕ → List (ℕ × E) → S → Maybe E → Type 0
+  Adds stands number seen x None = ⊥
+  Adds stands number seen x (Some e) = stands x (seen ++ (number, e) ∷ [])
 
   -- the pass when it has given the turn on with the named entry
   abbrev pub left_with : PassView E → Maybe E → PassView E
   left_with p None = p
-  left_with p (Some e) = record p { seen = p.seen ++ e ∷ []; mine = p.mine ++ e ∷ []; holds = false }
+  left_with p (Some e) = record p { seen = p.seen ++ (p.number, e) ∷ []; mine = p.mine ++ e ∷ []; holds = false }
 
   -- What holds of a pass between two calls: it is at work, has none to deal and has taken none in, and it waits only while it holds the turn, with the slot then out with it
   pub record IsAtRest {S : Type 0} (me : Me (Maybe S) (View E)) : Type 0 where

@@ -5,7 +5,7 @@ use mathlib.Core.Option.{Option, none, some}
 use lib.ListN.{get_elem?}
 use Rattle.atomic_table.specs.Table.{State}
 use Rattle.turn_lock.specs.declared.view.View.{View}
-use Rattle.turn_lock.specs.History.{entries, StartsWith}
+use Rattle.turn_lock.specs.History.{StartsWith}
 use Rattle.turn_lock.specs.Numbers.{total, Numbered}
 
 module _ {E : Type 0} where
@@ -14,9 +14,9 @@ module _ {E : Type 0} where
 
   -- what a pass knows: a front of the history, and its ticket, which is not yet served; where it holds the turn, the whole history and that it is served
   pub record Fits (log : List (ℕ × E)) (next : ℕ) (v : View E) : Type 0 where
-    pub seen : StartsWith (entries log) v.seen
+    pub seen : StartsWith log v.seen
     pub ticket : v.waits ≡ true → (v.live ≡ true) × (length log ≤ v.ticket) × (v.ticket < next)
-    pub holds : v.holds ≡ true → (v.waits ≡ true) × (v.ticket ≡ length log) × (v.seen ≡ entries log) × (length log < 2 ^ 62)
+    pub holds : v.holds ≡ true → (v.waits ≡ true) × (v.ticket ≡ length log) × (v.seen ≡ log) × (length log < 2 ^ 62)
 
   -- a pass that has done nothing and is to deal so many
   abbrev pub new_view : ℕ → ℕ → View E
@@ -26,11 +26,11 @@ module _ {E : Type 0} where
   abbrev pub first_view : ℕ → View E
   first_view passes = new_view 0 (passes - 1)
 
-  module _ {S : Type 0} (stands : S → List E → Type 0) where
+  module _ {S : Type 0} (stands : S → List (ℕ × E) → Type 0) where
     -- the slot is at home with a value that stands for the history, and nobody holds the turn; or it is out, and one pass holds it
     abbrev pub IsPlaced : List (ℕ × E) → List (Option (Maybe S)) → List (View E) → Type 0
     IsPlaced log homes views =
-        ((x : S) × (homes ≡ some (Some x) ∷ []) × stands x (entries log) × ((by : ℕ) (v : View E) → get_elem? views by ≡ some v → v.holds ≡ false))
+        ((x : S) × (homes ≡ some (Some x) ∷ []) × stands x log × ((by : ℕ) (v : View E) → get_elem? views by ≡ some v → v.holds ≡ false))
         ⊎ ((id : ℕ) × (holder : View E) × (homes ≡ none ∷ []) × (get_elem? views id ≡ some holder) × (holder.holds ≡ true) × ((by : ℕ) (v : View E) → get_elem? views by ≡ some v → v.holds ≡ true → by ≡ id))
 
     pub record Kept (passes : ℕ) (s : State (Maybe S) (View E)) : Type 0 where

@@ -8,9 +8,10 @@ use std::marker::Brand;
 pub trait Kept {
     type Entry;
 
-    /// Of the value, the number of the first entry, which is 0 for a turn, and the entries. By the number a meaning can be
+    /// Of the value, the number of the first entry, which is 0 for a turn, and the entries, each beside the number of the
+    /// pass that made it. By the number a meaning can be
     /// a recursion over the list, whose rest has a first entry of its own.
-    ghost stands: { Self → ℕ → List Self.Entry → Type 0 };
+    ghost stands: { Self → ℕ → List (ℕ × Self.Entry) → Type 0 };
 }
 
 /// The entry that a call of `leave` adds. It takes no bytes: a call of a function that is generic in it passes [`Brand`],

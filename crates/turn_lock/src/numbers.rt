@@ -4,6 +4,7 @@
 
 ghost use Rattle.std.specs.Prelude.{◌≡◌, ◌∷◌, [], ◌++◌, ◌<◌, true, false, Option, Some, OnOk, OnErr, IfSome, IfNone};
 ghost use Rattle.turn_lock.specs.Passes.{left_with};
+ghost use Rattle.turn_lock.specs.History.{entries};
 ghost use Rattle.turn_lock.specs.Pushing.{HasPushed};
 
 use crate::{Kept, Names, Pass, Turn};
@@ -30,7 +31,7 @@ impl Model for Numbers {
 impl Kept for Numbers {
     type Entry = u64;
 
-    ghost stands = { λ numbers _first log. numbers ≡ log };
+    ghost stands = { λ numbers _first log. numbers ≡ entries log };
 }
 
 impl Numbers {
@@ -61,7 +62,7 @@ fn give<N: Names<u64>>(
 )
     requires turn { pass.old.turn ≡ turn.now.id }
     requires held { pass.old.holds ≡ true }
-    requires pushed { numbers ≡ pass.old.seen ++ number ∷ [] }
+    requires pushed { numbers ≡ entries pass.old.seen ++ number ∷ [] }
     requires named { N.entry ≡ Some number }
     ensures { pass.new ≡ left_with pass.old (Some number) }
 {

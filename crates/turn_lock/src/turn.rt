@@ -11,7 +11,7 @@
 //! those that its pass has made.
 
 ghost use Rattle.std.specs.Prelude.{◌≡◌, ℕ, ◌+◌, ◌<◌, ◌≤◌, true, false, List, [], ◌∷◌, ◌++◌, ◌^◌, Option, Some, None, IfOk, All, length, vec_len, vec_capacity};
-ghost use Rattle.turn_lock.specs.History.{StartsWith};
+ghost use Rattle.turn_lock.specs.History.{entries_by, StartsWith};
 ghost use Rattle.turn_lock.specs.Passes.{AreFresh, Adds, left_with};
 ghost use Rattle.turn_lock.specs.Closing.{Closes};
 ghost use Rattle.turn_lock.specs.Rule.{first_view};
@@ -154,6 +154,7 @@ impl<V: Kept> Turn<V> {
         requires free { pass.old.holds ≡ false }
         ensures value { V.stands result 0 pass.new.seen }
         ensures seen { StartsWith pass.new.seen pass.old.seen }
+        ensures own { entries_by pass.new.number pass.new.seen ≡ pass.new.mine }
         ensures few { length pass.new.seen < 2 ^ 62 }
         ensures same { pass.new ≡ record pass.old { seen = pass.new.seen; holds = true } }
     {
@@ -196,7 +197,7 @@ impl<V: Kept> Turn<V> {
     pub fn leave<N: Names<V::Entry>>(&self, pass: &mut Pass<V>, value: V)
         requires turn { pass.old.turn ≡ self.now.id }
         requires held { pass.old.holds ≡ true }
-        requires adds { Adds (λ x. V.stands x 0) pass.old.seen value N.entry }
+        requires adds { Adds (λ x. V.stands x 0) pass.old.number pass.old.seen value N.entry }
         ensures { pass.new ≡ left_with pass.old N.entry }
     {
         let hole = self.table.shared.exchange(&mut pass.seat, 0, Some(value));

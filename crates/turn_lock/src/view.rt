@@ -10,8 +10,8 @@ pub struct View<E> {
     pub live: bool,
     /// How many passes it is to deal, with the numbers behind its own.
     pub ahead: u64,
-    /// The front of the history that it has seen.
-    pub seen: LinkedList<E>,
+    /// The front of the history that it has seen: entries, each beside the number of the pass that made it.
+    pub seen: LinkedList<(u64, E)>,
     /// The entries that it made.
     pub mine: LinkedList<E>,
     /// It has drawn a ticket, and not given the turn on.
@@ -27,6 +27,6 @@ pub struct View<E> {
 /// What a pass knew when it was taken in.
 pub struct Ended<E> {
     pub number: u64,
-    pub seen: LinkedList<E>,
+    pub seen: LinkedList<(u64, E)>,
     pub mine: LinkedList<E>,
 }

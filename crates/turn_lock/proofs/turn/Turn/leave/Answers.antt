@@ -1,4 +1,4 @@
-use Rattle.std.proofs.Common.{◌∷◌, Some, sym, ap, ◌∙◌, arith}
+use Rattle.std.proofs.Common.{◌∷◌, Some, sym, ap, ◌∙◌, subst, arith}
 use Rattle.atomic_table.specs.Table.{rest}
 use Rattle.turn_lock.specs.Passes.{TurnView, PassView, Adds}
 use Rattle.turn_lock.proofs.Turns.{leaves_named}
@@ -14,5 +14,5 @@ fetch_add-requires g c =
       omega arith,
       leaves_named (λ v. g.V.Kept.stands v 0) _ _ _ c.exchange-hole.new.seat.me c.pass.inside.seat.me.0 c.args.value g.N.Names.entry
           (x.3 ∙ ap (λ l. (c.pass.inside.seat.me.0, (0, Some c.args.value) ∷ rest l)) out) held
-          (rw (ap (λ (p : PassView g.row.V-Entry.Denot). p.seen) c.pass.view_is) c.requires.adds),
+          (subst (λ (p : PassView g.row.V-Entry.Denot). Adds (λ v. g.V.Kept.stands v 0) p.number p.seen c.args.value g.N.Names.entry) (sym c.pass.view_is) c.requires.adds),
     )
