@@ -198,7 +198,7 @@ impl<V: Kept> Turn<V> {
         requires turn { pass.old.turn ≡ self.now.id }
         requires held { pass.old.holds ≡ true }
         requires adds { Adds (λ x. V.stands x 0) pass.old.number pass.old.seen value N.entry }
-        ensures { pass.new ≡ left_with pass.old N.entry }
+        ensures given { pass.new ≡ left_with pass.old N.entry }
     {
         let hole = self.table.shared.exchange(&mut pass.seat, 0, Some(value));
         let None = hole else { unreachable!() };
@@ -212,7 +212,7 @@ impl<V: Kept> Turn<V> {
         requires all { vec_len passes ≡ self.passes }
         requires turn { All (λ p. p.turn ≡ self.id) passes.items }
         requires free { All (λ p. p.holds ≡ false) passes.items }
-        ensures { Closes (λ x. V.stands x 0) passes.items result }
+        ensures closes { Closes (λ x. V.stands x 0) passes.items result }
     {
         let seat = self.gather(passes);
         let Turn { table } = self;

@@ -19,4 +19,4 @@ returns g c =
     let ok = c.args.passes.ok in let all = c.requires.all in
     let many : length c.args.passes.items ≡ c.self.inside.table.shared.key = omega (arith, ap (λ (t : TurnView). t.passes) c.self.view_is) in
     let v = closes_with (λ x. g.V.Kept.stands x 0) c.self.inside.table.shared.key c.gather-seat.result.id c.gather-seat.result.me.0 c.args.passes.items _ _ c.take.result c.close_with-closed.ensures.values.2 c.gather-seat.ensures.gathers many c.take.ensures.value in
-    subst (Closes (λ x. g.V.Kept.stands x 0) c.args.passes.items) (some_same v.0 c.in-Some.value (sym v.1 ∙ c.in-Some.is)) v.2
+    record { closes = subst (Closes (λ x. g.V.Kept.stands x 0) c.args.passes.items) (some_same v.0 c.in-Some.value (sym v.1 ∙ c.in-Some.is)) v.2 }
