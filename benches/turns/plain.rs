@@ -4,8 +4,8 @@ use std::sync::Mutex;
 use std::thread;
 use std::time::{Duration, Instant};
 
-const ROUNDS: u64 = 200_000;
-const TRIES: u32 = 3;
+const ROUNDS: u64 = 50_000;
+const TRIES: u32 = 20;
 
 fn timed(threads: u64) -> (Duration, u64) {
     let count = Mutex::new(0);
