@@ -9,8 +9,7 @@ pub trait Kept {
     type Entry;
 
     /// Of the value, the number of the first entry, which is 0 for a turn, and the entries, each beside the number of the
-    /// pass that made it. By the number a meaning can be
-    /// a recursion over the list, whose rest has a first entry of its own.
+    /// pass that made it. By the number a meaning can be a recursion over the list, whose rest has a first entry of its own.
     ghost stands: { Self → ℕ → List (ℕ × Self.Entry) → Type 0 };
 }
 

@@ -1,4 +1,4 @@
-//! What no clause says: that threads run, wait for one another and end, and that memory is there for them.
+//! What no clause says: that calls in several threads end, and that memory is there for them.
 
 ghost use Rattle.std.specs.Prelude.{◌≡◌, ◌<◌, false, All, IfOk, vec_len};
 
