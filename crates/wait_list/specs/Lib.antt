@@ -1,0 +1,5 @@
+pub mod Lists
+pub mod Finding
+pub mod Standing
+pub mod Waits
+pub mod Told
