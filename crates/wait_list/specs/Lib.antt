@@ -3,3 +3,4 @@ pub mod Finding
 pub mod Standing
 pub mod Waits
 pub mod Told
+pub mod Meeting
