@@ -1,3 +1,4 @@
 pub mod Cells
 pub mod Marks
 pub mod Asking
+pub mod Waiting

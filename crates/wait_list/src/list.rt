@@ -3,14 +3,14 @@
 //! It is a queue with a mark for each cell, whether that cell stands in it (`Holds`). So an older entry of a cell is looked for only where
 //! there is one, and all else takes constant time for each fiber that leaves. The theorems are the clauses of the methods.
 
-ghost use Rattle.std.specs.Prelude.{◌≡◌, ◌<◌, ◌≤◌, [], ◌∷◌, ◌++◌, length, map, drop, slice_get, None, IfOk};
+ghost use Rattle.std.specs.Prelude.{◌≡◌, ◌<◌, ◌≤◌, true, false, [], ◌∷◌, ◌++◌, length, map, drop, slice_get, None, IfOk};
 ghost use Rattle.std.specs.VecDeque.{deque_capacity};
 ghost use Rattle.wait_list.specs.Finding.{Finds, WakesFirst};
 ghost use Rattle.wait_list.specs.Standing.{found_of, queued_of};
 ghost use Rattle.wait_list.specs.Waits.{EachCellOnce, others};
 
 use crate::Queued;
-use eio_value::{NoMemory, Outcome, Wake, Woken};
+use eio_value::{Answer, NoMemory, Outcome, Wake, Woken};
 use std::alloc::Global;
 use std::collections::VecDeque;
 use std::marker::Model;
@@ -66,6 +66,20 @@ impl WaitList {
         }
         self.marks[cell as usize] = true;
         self.queue.push_back_reserved(queued);
+    }
+
+    /// The fiber waits, `Waits`: it stands last, and an older entry of its cell leaves. Where its context is off it doesn't, `Off`, and nothing
+    /// has changed.
+    pub fn wait(&mut self, queued: Queued, off: bool) -> Answer
+        requires cell { queued.who.cell < self.old.cells }
+        ensures off { off ≡ true → (result ≡ Answer.Off) × (self.new ≡ self.old) }
+        ensures waits { off ≡ false → (result ≡ Answer.Waits) × (self.new ≡ record self.old { waiting = others queued.who.cell self.old.waiting ++ queued_of queued ∷ [] }) }
+    {
+        if off {
+            return Answer::Off;
+        }
+        self.enter(queued);
+        Answer::Waits
     }
 
     /// The oldest leaves.
