@@ -13,3 +13,8 @@ abbrev pub sent_of : Told → Option Sent
 sent_of told.Nothing = None
 sent_of (told.Resumed who outcome) = Some (Resumes who outcome)
 sent_of (told.Started domain job number) = Some (Starts (record { domain = domain; job = job; number = number }))
+
+-- the stamp of the wait that was woken
+abbrev pub woken_stamp : Told → Option ℕ
+woken_stamp (told.Resumed who outcome) = Some who.armed
+woken_stamp other = None

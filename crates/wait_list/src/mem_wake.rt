@@ -2,7 +2,7 @@
 
 ghost use Rattle.std.specs.Prelude.{◌≡◌, true, refl};
 ghost use Rattle.std.proofs.Common.{◌∙◌};
-ghost use Rattle.wait_list.specs.Told.{is_among};
+ghost use Rattle.wait_list.specs.Told.{is_among, woken_stamp};
 
 use eio_value::{Job, Outcome, Waiter, Wake, Woken};
 
@@ -19,6 +19,29 @@ pub enum Told {
 pub struct MemWake {
     pub dead: Vec<(u32, u64)>,
     pub told: Told,
+}
+
+impl MemWake {
+    /// These waits are dead, and nothing was sent.
+    pub fn new(dead: Vec<(u32, u64)>) -> MemWake
+        ensures dead { result.dead ≡ dead }
+        ensures told { result.told ≡ Told.Nothing }
+    {
+        MemWake {
+            dead,
+            told: Told::Nothing,
+        }
+    }
+
+    /// The stamp of the wait that was woken; `None` where none was.
+    pub fn woken(&self) -> Option<u64>
+        ensures { result ≡ woken_stamp self.now.told }
+    {
+        match &self.told {
+            Told::Resumed(who, _) => Some(who.armed),
+            Told::Nothing | Told::Started(_, _, _) => None,
+        }
+    }
 }
 
 /// Whether this wait is one of these.
