@@ -24,7 +24,7 @@ none_stands_go : (cell : ℕ) (x : Queued) (xs : List Queued) (b : Bool) → has
 none_stands_go cell x xs true has rest none = absurd (let h : suc (count cell xs) ≡ 0 = rw has at none in omega arith)
 none_stands_go cell x xs false has rest none = rw has (rest (rw has at none))
 
-none_stands : (cell : ℕ) (xs : List Queued) → count cell xs ≡ 0 → stands cell xs ≡ false
+pub none_stands : (cell : ℕ) (xs : List Queued) → count cell xs ≡ 0 → stands cell xs ≡ false
 none_stands cell [] none = refl
 none_stands cell (x ∷ xs) none = none_stands_go cell x xs (has_cell cell x.who) refl (none_stands cell xs) none
 

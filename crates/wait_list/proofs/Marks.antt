@@ -8,7 +8,7 @@ use Rattle.wait_list.specs.Waits.{stands, others}
 use Rattle.wait_list.proofs.Cells.{once_tail, first_is_gone, once_entered, below_entered, stands_entered, stands_besides, no_more_than_cells}
 
 -- what a mark says after the one of a cell was set
-set_go : (marks : List Bool) (at cell : ℕ) (b d : Bool) (answer : Bool) → at < length marks → ((at == cell) ≡ true → answer ≡ b) → ((at == cell) ≡ false → answer ≡ slice_index_or marks cell d) → (is : Bool) → (at == cell) ≡ is
+pub set_go : (marks : List Bool) (at cell : ℕ) (b d : Bool) (answer : Bool) → at < length marks → ((at == cell) ≡ true → answer ≡ b) → ((at == cell) ≡ false → answer ≡ slice_index_or marks cell d) → (is : Bool) → (at == cell) ≡ is
     → slice_index_or (slice_set marks at b) cell d ≡ answer
 set_go marks at cell b d answer within here there true is =
     let same : at ≡ cell = eqb-true at cell is in

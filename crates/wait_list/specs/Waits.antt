@@ -1,5 +1,5 @@
 -- Each cell stands in a list at most once, and each is one of the cells that there are.
-use Rattle.std.specs.Prelude.{ℕ, ◌<◌, ◌≤◌, Bool, List, length, filter}
+use Rattle.std.specs.Prelude.{ℕ, ◌==◌, ◌<◌, ◌≤◌, Bool, List, length, filter}
 use Rattle.std.specs.List.{All, list_any}
 use Rattle.model_laws.specs.Waits.{has_cell}
 use Rattle.row_model.specs.Row.{Queued, has_other_cell}
@@ -22,3 +22,7 @@ EachCellOnce list = (cell : ℕ) → count cell list ≤ 1
 -- all cells are below this number
 abbrev pub AreBelow : ℕ → List Queued → Type 0
 AreBelow cells list = All (λ queued. queued.who.cell < cells) list
+
+-- the fiber waits with this number
+abbrev pub has_number : ℕ → Queued → Bool
+has_number number queued = queued.number == number

@@ -3,11 +3,13 @@
 //! It is a queue with a mark for each cell, whether that cell stands in it (`Holds`). So an older entry of a cell is looked for only where
 //! there is one, and all else takes constant time for each fiber that leaves. The theorems are the clauses of the methods.
 
-ghost use Rattle.std.specs.Prelude.{◌≡◌, ◌<◌, ◌≤◌, true, false, [], ◌∷◌, ◌++◌, length, map, drop, slice_get, None, IfOk};
+ghost use Rattle.std.specs.Prelude.{◌≡◌, ◌<◌, ◌≤◌, true, false, [], ◌∷◌, ◌++◌, ◌==◌, length, map, drop, find, slice_get, None, IfOk};
+ghost use Rattle.std.specs.List.{position};
+ghost use Rattle.row_model.specs.Row.{but_first};
 ghost use Rattle.std.specs.VecDeque.{deque_capacity};
 ghost use Rattle.wait_list.specs.Finding.{Finds, WakesFirst};
 ghost use Rattle.wait_list.specs.Standing.{found_of, queued_of};
-ghost use Rattle.wait_list.specs.Waits.{EachCellOnce, others};
+ghost use Rattle.wait_list.specs.Waits.{EachCellOnce, has_number, others};
 
 use crate::Queued;
 use eio_value::{Answer, NoMemory, Outcome, Wake, Woken};
@@ -43,6 +45,13 @@ fn drop_cell(queue: &mut VecDeque<Queued>, cell: u32)
     ensures room { deque_capacity queue.new ≡ deque_capacity queue.old }
 {
     queue.retain(|other| other.who.cell != cell);
+}
+
+/// Where the first fiber with this number stands in a queue.
+fn place_of(queue: &VecDeque<Queued>, number: u64) -> Option<usize>
+    ensures { result ≡ position (λ queued. queued.number == number) queue.now.items }
+{
+    queue.iter().position(|queued| queued.number == number)
 }
 
 impl WaitList {
@@ -107,6 +116,17 @@ impl WaitList {
             }
         }
         None
+    }
+
+    /// The first fiber that waits with this number leaves and is answered.
+    pub fn take_numbered(&mut self, number: u64) -> Option<Queued>
+        ensures found { found_of result ≡ find (has_number number) self.old.waiting }
+        ensures left { self.new ≡ record self.old { waiting = but_first (has_number number) self.old.waiting } }
+    {
+        let place = place_of(&self.queue, number)?;
+        let found = self.queue.remove(place)?;
+        self.marks[found.who.cell as usize] = false;
+        Some(found)
     }
 
     /// Each cell stands at most once, and no more fibers than there are cells.
