@@ -1,2 +1,4 @@
 mod Loads
 mod Working
+mod Manning
+mod Relieving

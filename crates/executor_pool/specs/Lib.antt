@@ -1,2 +1,4 @@
 pub mod Working
 pub mod Loads
+pub mod Crews
+pub mod Kept
