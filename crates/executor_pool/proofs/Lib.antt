@@ -2,3 +2,5 @@ mod Loads
 mod Working
 mod Manning
 mod Relieving
+mod Submitting
+mod Finishing

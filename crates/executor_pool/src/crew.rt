@@ -4,7 +4,7 @@
 //! (`AreWorking`). As each job weighs something, at most 100 jobs run on a worker, for which the constructor takes the room. The theorems are the clauses of
 //! the methods, by `row_model`'s `Executors`.
 
-ghost use Rattle.std.specs.Prelude.{◌≡◌, ◌==◌, ◌<◌, ◌≤◌, [], find, map, nat_le, ◌+◌, true, false, Some, None, IfOk};
+ghost use Rattle.std.specs.Prelude.{◌≡◌, ◌↔◌, ◌==◌, ◌<◌, ◌≤◌, [], find, map, nat_le, ◌+◌, true, false, Some, None, IfOk};
 ghost use Rattle.std.specs.List.{position};
 ghost use Rattle.row_model.specs.Data.{Worker as OfWorkers, Running as OfJobs};
 ghost use Rattle.row_model.specs.Executors.{fits, has_number, relieved, workers_from};
@@ -118,7 +118,8 @@ impl Crew {
     /// The job starts on the first worker that it fits, whose domain is answered; `None` where it fits none.
     pub(crate) fn start(&mut self, number: u64, weight: u8) -> Option<u8>
         requires weighty { 0 < weight }
-        ensures unfit { find (fits weight) self.old.workers ≡ None → (result ≡ None) × (self.new ≡ self.old) }
+        ensures none { (result ≡ None) ↔ (find (fits weight) self.old.workers ≡ None) }
+        ensures unfit { result ≡ None → self.new ≡ self.old }
         ensures starts { (worker : OfWorkers) → find (fits weight) self.old.workers ≡ Some worker → (result ≡ Some worker.domain) × (self.new ≡ crew_with number weight worker self.old) }
     {
         let at = fitting(&self.workers, weight)?;
@@ -138,7 +139,8 @@ impl Crew {
 
     /// The job with this number ends; false where it doesn't run.
     pub(crate) fn end(&mut self, number: u64) -> bool
-        ensures stranger { find (has_number number) self.old.running ≡ None → (result ≡ false) × (self.new ≡ self.old) }
+        ensures none { (result ≡ false) ↔ (find (has_number number) self.old.running ≡ None) }
+        ensures stranger { result ≡ false → self.new ≡ self.old }
         ensures ends { (job : OfJobs) → find (has_number number) self.old.running ≡ Some job → (result ≡ true) × (self.new ≡ crew_without job self.old) }
     {
         let Some(at) = numbered(&self.running, number) else {

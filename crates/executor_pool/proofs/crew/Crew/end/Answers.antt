@@ -1,4 +1,4 @@
-use Rattle.std.proofs.Common.{◌≡◌, ◌==◌, ℕ, List, map, get_or, sym, refl, ap, ◌∙◌, Some, None}
+use Rattle.std.proofs.Common.{true, false, ◌≡◌, ◌==◌, ℕ, List, map, get_or, sym, refl, ap, ◌∙◌, Some, None}
 use Rattle.std.specs.Prelude.{find}
 use Rattle.std.specs.List.{position, remove}
 use Rattle.row_model.specs.Data.{Running}
@@ -26,6 +26,13 @@ leaves number at items job is value =
 none : (number : ℕ) (items : List Kept) → None ≡ position (λ (kept : Kept). kept.number == number) items → find (has_number number) (map running_of items) ≡ None
 none number items is = nowhere running_of (has_number number) items (sym is)
 
+pub returns-in_default-clause-none : goal.returns-in_default-clause-none
+returns-in_default-clause-none c =
+    let gone : find (has_number c.args.number) (map running_of c.self.inside.running.items) ≡ None =
+    none c.args.number c.self.inside.running.items (c.in_default.ensures ∙ ap (position (λ (kept : Kept). kept.number == c.args.number)) c.deref.ensures.value)
+    in
+    ((λ e. rw (← c.self.view_is) gone), λ e. refl)
+
 pub returns-in_default-clause-ends : goal.returns-in_default-clause-ends
 returns-in_default-clause-ends c = λ job found.
     let gone : find (has_number c.args.number) (map running_of c.self.inside.running.items) ≡ None = none c.args.number c.self.inside.running.items (c.in_default.ensures ∙ ap (position (λ (kept : Kept). kept.number == c.args.number)) c.deref.ensures.value) in
@@ -43,12 +50,15 @@ invariant_of-self c =
     let l = leaves c.args.number c.in-Some.at c.self.inside.running.items c.remove-job.result (c.in-Some.ensures ∙ ap (position (λ (kept : Kept). kept.number == c.args.number)) c.deref.ensures.value) c.remove-job.ensures.value in
     rw (c.relieve.ensures, c.remove-job.ensures.items, l.left, c.remove-job.ensures.capacity) (manned_without c.args.number _ _ _ (running_of c.remove-job.result) c.self.invariant l.is)
 
-pub returns-clause-stranger : goal.returns-clause-stranger
-returns-clause-stranger c = λ gone.
-    let l = leaves c.args.number c.in-Some.at c.self.inside.running.items c.remove-job.result (c.in-Some.ensures ∙ ap (position (λ (kept : Kept). kept.number == c.args.number)) c.deref.ensures.value) c.remove-job.ensures.value in
-    let here : find (has_number c.args.number) (map running_of c.self.inside.running.items) ≡ None = rw (← c.self.view_is) at gone in
-    let e : Some (running_of c.remove-job.result) ≡ None = sym l.is ∙ here in
-    absurd (cc)
+pub returns-clause-none : goal.returns-clause-none
+returns-clause-none c = (
+  (λ (e : true ≡ false). absurd (cc)),
+  λ gone.
+      let l = leaves c.args.number c.in-Some.at c.self.inside.running.items c.remove-job.result (c.in-Some.ensures ∙ ap (position (λ (kept : Kept). kept.number == c.args.number)) c.deref.ensures.value) c.remove-job.ensures.value in
+      let here : find (has_number c.args.number) (map running_of c.self.inside.running.items) ≡ None = rw (← c.self.view_is) at gone in
+      let e : Some (running_of c.remove-job.result) ≡ None = sym l.is ∙ here in
+      absurd (cc),
+)
 
 pub returns-clause-ends : goal.returns-clause-ends
 returns-clause-ends c = λ job found.

@@ -21,6 +21,13 @@ use Rattle.executor_pool.proofs.crew.Crew.start.Goals.{After-push_reserved-2}
 unfit : (weight : ℕ) (items : List Kept) → None ≡ position (λ (kept : Kept). nat_le (kept.load + weight) 100) items → find (fits weight) (map worker_of items) ≡ None
 unfit weight items is = nowhere worker_of (fits weight) items (sym is)
 
+pub returns-in_err-at-clause-none : goal.returns-in_err-at-clause-none
+returns-in_err-at-clause-none c =
+    let gone : find (fits c.args.weight) (map worker_of c.self.inside.workers.items) ≡ None =
+    unfit c.args.weight c.self.inside.workers.items (c.in_err-at.ensures ∙ ap (position (λ (kept : Kept). nat_le (kept.load + c.args.weight) 100)) c.deref.ensures.value)
+    in
+    ((λ e. rw (← c.self.view_is) gone), λ e. c.from_residual.ensures)
+
 pub returns-in_err-at-clause-starts : goal.returns-in_err-at-clause-starts
 returns-in_err-at-clause-starts c = λ worker found.
     let gone : find (fits c.args.weight) (map worker_of c.self.inside.workers.items) ≡ None = unfit c.args.weight c.self.inside.workers.items (c.in_err-at.ensures ∙ ap (position (λ (kept : Kept). nat_le (kept.load + c.args.weight) 100)) c.deref.ensures.value) in
@@ -80,12 +87,15 @@ invariant_of-self c =
     let after = (goal.at.invariant_of-self c).After-push_reserved-2 in
     rw (workers after f, running after, c.push_reserved-2.ensures.capacity) now
 
-pub returns-clause-unfit : goal.returns-clause-unfit
-returns-clause-unfit c = λ gone.
-    let f = fitted c.args.weight c.in_ok-at.at c.self.inside.workers.items c.remove-worker.result (c.in_ok-at.ensures ∙ ap (position (λ (kept : Kept). nat_le (kept.load + c.args.weight) 100)) c.deref.ensures.value) c.remove-worker.ensures.value in
-    let here : find (fits c.args.weight) (map worker_of c.self.inside.workers.items) ≡ None = rw (← c.self.view_is) at gone in
-    let e : Some (worker_of c.remove-worker.result) ≡ None = sym f.is ∙ here in
-    absurd (cc)
+pub returns-clause-none : goal.returns-clause-none
+returns-clause-none c = (
+  (λ (e : Some c.remove-worker.result.domain ≡ None). absurd (cc)),
+  λ gone.
+      let f = fitted c.args.weight c.in_ok-at.at c.self.inside.workers.items c.remove-worker.result (c.in_ok-at.ensures ∙ ap (position (λ (kept : Kept). nat_le (kept.load + c.args.weight) 100)) c.deref.ensures.value) c.remove-worker.ensures.value in
+      let here : find (fits c.args.weight) (map worker_of c.self.inside.workers.items) ≡ None = rw (← c.self.view_is) at gone in
+      let e : Some (worker_of c.remove-worker.result) ≡ None = sym f.is ∙ here in
+      absurd (cc),
+)
 
 pub returns-clause-starts : goal.returns-clause-starts
 returns-clause-starts c = λ worker found.
