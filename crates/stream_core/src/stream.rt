@@ -2,7 +2,9 @@
 //!
 //! Its items stand in a ring of its capacity, and its two lists have room for each cell, so only `new` takes memory. Nobody waits to add
 //! where somebody waits to take (`HasOneSide`): a call enters its fiber only once it has found nobody alive on the other side, and then
-//! that list is empty. The theorems are the clauses of the methods.
+//! that list is empty. As fibers are entered behind and asked from the front, items leave in the order in which they were accepted, and
+//! who has waited longest comes first. The theorems are the clauses of the methods of [`Stream`], by `row_model`'s `Streams`; that items
+//! leave in order, whatever is called, is the law `items_in_order` of `model_laws`.
 
 ghost use Rattle.std.specs.Prelude.{◌≡◌, ◌↔◌, ◌+◌, ◌<◌, ◌≤◌, ℕ, Bool, true, false, pos, [], ◌∷◌, length, None, IfOk};
 ghost use Rattle.std.specs.List.{All};
@@ -27,8 +29,11 @@ use wait_list::{Queued, WaitList};
 /// A stream, with the fibers that wait to take from it and those that wait to add.
 #[derive(Drop)]
 pub struct Stream {
+    /// The oldest first, in a ring of the stream's capacity.
     items: HeapCircularBuffer<Value>,
+    /// Who waits to take; nobody where somebody waits to add.
     takers: WaitList,
+    /// Who waits to add, each with its item; nobody where somebody waits to take.
     adders: WaitList,
 }
 
