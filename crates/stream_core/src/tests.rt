@@ -1,6 +1,6 @@
 //! Each call once; and for each call that wakes the table of dead waits: none is dead, the first is, all are, and an older entry of a cell is gone.
 
-ghost use Rattle.std.specs.Prelude.{◌≡◌, IfOk};
+ghost use Rattle.std.specs.Prelude.{◌≡◌, ◌<◌, IfOk};
 
 use super::Stream;
 use eio_value::{Answer, Outcome, Value, Waiter};
@@ -21,6 +21,27 @@ fn waiter(cell: u32, armed: u64) -> Waiter
         cell,
         armed,
     }
+}
+
+/// The fiber takes, where all are alive.
+fn take(alloc: Global, stream: &mut Stream, who: Waiter) -> Answer
+    requires { who.cell < stream.old.cells }
+    ensures { stream.new.cells ≡ stream.old.cells }
+{
+    stream.take(&mut MemWake::new(Vec::new(alloc)), who, false)
+}
+
+/// The fiber adds this number, where all are alive.
+fn add(alloc: Global, stream: &mut Stream, who: Waiter, number: i64) -> Answer
+    requires { who.cell < stream.old.cells }
+    ensures { stream.new.cells ≡ stream.old.cells }
+{
+    stream.add(
+        &mut MemWake::new(Vec::new(alloc)),
+        who,
+        false,
+        Value::Int(number),
+    )
 }
 
 /// The number that was taken; 0 where none was.
@@ -44,10 +65,9 @@ fn with_takers(alloc: Global) -> Result<Stream, Fail>
     ensures { IfOk result (λ stream. stream.cells ≡ 4) }
 {
     let mut stream = Stream::new(alloc, 0, 4)?;
-    let mut wake = MemWake::new(Vec::new(alloc));
-    stream.take(&mut wake, waiter(2, 10), false);
-    stream.take(&mut wake, waiter(1, 11), false);
-    stream.take(&mut wake, waiter(2, 12), false);
+    take(alloc, &mut stream, waiter(2, 10));
+    take(alloc, &mut stream, waiter(1, 11));
+    take(alloc, &mut stream, waiter(2, 12));
     Ok(stream)
 }
 
@@ -78,10 +98,9 @@ fn with_adders(alloc: Global) -> Result<Stream, Fail>
     ensures { IfOk result (λ stream. stream.cells ≡ 4) }
 {
     let mut stream = Stream::new(alloc, 1, 4)?;
-    let mut wake = MemWake::new(Vec::new(alloc));
-    stream.add(&mut wake, waiter(1, 10), false, Value::Int(1));
-    stream.add(&mut wake, waiter(1, 11), false, Value::Int(2));
-    stream.add(&mut wake, waiter(2, 12), false, Value::Int(3));
+    add(alloc, &mut stream, waiter(1, 10), 1);
+    add(alloc, &mut stream, waiter(1, 11), 2);
+    add(alloc, &mut stream, waiter(2, 12), 3);
     Ok(stream)
 }
 
@@ -111,15 +130,17 @@ fn a_call_that_is_off_leaves_the_stream(rt: HostRuntime) -> Result<(), Fail> {
     let alloc = rt.alloc();
     let mut stream = Stream::new(alloc, 0, 1)?;
     may_move(&stream);
-    let mut wake = MemWake::new(Vec::new(alloc));
-    assert!(rt; matches!(stream.take(&mut wake, waiter(0, 10), true), Answer::Off));
+    let mut first = MemWake::new(Vec::new(alloc));
+    assert!(rt; matches!(stream.take(&mut first, waiter(0, 10), true), Answer::Off));
+    let mut second = MemWake::new(Vec::new(alloc));
     assert!(rt;
         matches!(
-            stream.add(&mut wake, waiter(0, 11), true, Value::Unit),
+            stream.add(&mut second, waiter(0, 11), true, Value::Unit),
             Answer::Off
         )
     );
-    assert!(rt; matches!(stream.take_nonblocking(&mut wake), Answer::Nothing));
+    let mut third = MemWake::new(Vec::new(alloc));
+    assert!(rt; matches!(stream.take_nonblocking(&mut third), Answer::Nothing));
     assert_eq!(rt; stream.len(), 0);
     stream.each_cell_once();
     Ok(())
