@@ -26,7 +26,7 @@ invariant_of-self g c =
     record {
       fits = c.self-2.invariant.fits;
       small = c.self-2.invariant.small;
-      alike = c.self-2.invariant.alike ∙ sym (cells_stay c.args.off c.self-2.inside.takers c.wait.new.self c.wait.ensures.off c.wait.ensures.waits);
+      alike = c.self-2.invariant.alike ∙ sym (cells_stay _ c.self-2.inside.takers c.wait.new.self c.wait.ensures.off c.wait.ensures.waits);
       one_side = subst (λ (l : List Queued). HasOneSide c.wait.new.self.waiting l) (sym gone) (no_adders c.wait.new.self.waiting);
     }
 
