@@ -1,7 +1,7 @@
 //! A promise.
 //!
-//! While it is unresolved its list has the fibers that wait, and nobody is woken; once it is resolved nobody is entered any more, and each
-//! `next_wake` takes one out. The theorems are the clauses of the methods.
+//! Until it is resolved fibers are entered and nobody is woken; from then on nobody is entered, and each `next_wake` takes out the dead to which
+//! it comes and the first that is alive. The theorems are the clauses of the methods of [`Promise`], by `row_model`'s `Promises`.
 
 ghost use Rattle.std.specs.Prelude.{◌≡◌, ◌↔◌, ◌<◌, ◌≤◌, length, ℕ, Bool, true, false, [], None, IfOk, IsSome};
 ghost use Rattle.std.specs.List.{All};
@@ -24,7 +24,9 @@ use wait_list::{Queued, WaitList};
 /// A promise, with the fibers that wait for its outcome.
 #[derive(Drop)]
 pub struct Promise {
+    /// Set once, and never changed.
     outcome: Option<Outcome>,
+    /// Who waits for it, the oldest first.
     waiting: WaitList,
 }
 
@@ -53,11 +55,11 @@ impl Promise {
     }
 
     /// The outcome, once there is one: `Done` or `Raised`. Until then the fiber waits for it, `Waits`; or, where its context is
-    /// off, `Off` is answered and nothing has changed.
+    /// off, `Off` is answered and nothing has changed (`off`).
     ///
     /// # Cancellation
-    /// A fiber that is cancelled while it waits has taken nothing from anybody, and the promise is the same (`waits`). One that was woken
-    /// before has the outcome, and later calls answer the same one again.
+    /// A fiber that is cancelled while it waits has lost its place alone: the outcome isn't changed by waiting (`waits`), nor by being
+    /// told (`awaits`), so a later call has it all the same. One that [`next_wake`](Promise::next_wake) has woken before has the outcome.
     pub fn await_(&mut self, who: Waiter, off: bool) -> Answer
         requires cell { who.cell < self.old.cells }
         ensures awaits { (object serial : ℕ) → called self.old.row who off serial (call.Await object) ≡ record { row = self.new.row; answer = result; sent = None } }
@@ -94,7 +96,8 @@ impl Promise {
         true
     }
 
-    /// Wakes the first fiber that is alive, with the outcome: `Woke`. `Nothing` exactly where nobody is alive or it isn't resolved.
+    /// Wakes the first fiber that is alive, with the outcome: `Woke`. `Nothing` exactly where nobody is alive or it isn't resolved. Where it
+    /// is, the fibers were all dead and are gone (`dead`); where it isn't, nobody was asked (`unresolved`).
     pub fn next_wake<W: Wake>(&mut self, wake: &mut W) -> Answer
         requires quiet { W.sent wake.old ≡ None }
         ensures wakes { (who : Wait) (off : Bool) (object serial : ℕ) → Meets (W.knows wake.old) (W.knows wake.new) (W.tells wake.old) self.old.row who off serial (call.NextWake object) (record { row = self.new.row; answer = result; sent = W.sent wake.new }) }

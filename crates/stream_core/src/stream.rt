@@ -2,7 +2,9 @@
 //!
 //! Its items stand in a ring of its capacity, and its two lists have room for each cell, so only `new` takes memory. Nobody waits to add
 //! where somebody waits to take (`HasOneSide`): a call enters its fiber only once it has found nobody alive on the other side, and then
-//! that list is empty. The theorems are the clauses of the methods.
+//! that list is empty. As fibers are entered behind and asked from the front, items leave in the order in which they were accepted, and
+//! who has waited longest comes first. The theorems are the clauses of the methods of [`Stream`], by `row_model`'s `Streams`; that items
+//! leave in order, whatever is called, is the law `items_in_order` of `model_laws`.
 
 ghost use Rattle.std.specs.Prelude.{◌≡◌, ◌↔◌, ◌+◌, ◌<◌, ◌≤◌, ℕ, Bool, true, false, pos, [], ◌∷◌, length, None, IfOk};
 ghost use Rattle.std.specs.List.{All};
@@ -27,8 +29,11 @@ use wait_list::{Queued, WaitList};
 /// A stream, with the fibers that wait to take from it and those that wait to add.
 #[derive(Drop)]
 pub struct Stream {
+    /// The oldest first, in a ring of the stream's capacity.
     items: HeapCircularBuffer<Value>,
+    /// Who waits to take; nobody where somebody waits to add.
     takers: WaitList,
+    /// Who waits to add, each with its item; nobody where somebody waits to take.
     adders: WaitList,
 }
 
@@ -46,7 +51,10 @@ impl Model for Stream {
 }
 
 impl Stream {
-    /// An empty stream where nobody waits. So many cells are there. No other call takes memory.
+    /// An empty stream of this capacity, for fibers with cells below `cells`. No other call takes memory.
+    ///
+    /// # Errors
+    /// [`NoMemory`].
     pub fn new(alloc: Global, capacity: u32, cells: u32) -> Result<Stream, NoMemory>
         ensures { IfOk result (λ stream. stream ≡ record { row = streams.stream capacity; cells = cells }) }
     {
@@ -60,17 +68,20 @@ impl Stream {
         })
     }
 
-    /// Adds an item: hands it to the first taker that is alive, or else appends it where the stream has room.
+    /// Adds an item, `Done(())`: hands it to the first taker that is alive, or else appends it where there is room. Where there is none
+    /// the fiber waits with the item, `Waits`; or, where its context is off, `Off` is answered and nothing has changed but that the
+    /// takers, which were all dead, are gone (`off`, `dead`).
     ///
-    /// Where neither can be, it waits: `Waits` while the item stays with the fiber, of which the stream has accepted nothing (`waits`). A
-    /// fiber that is cancelled there has added nothing; one that was woken has added the item, whatever is cancelled later. Where the
-    /// context is off it doesn't wait, and nothing is added (`off`).
+    /// # Cancellation
+    /// The items are as before while the fiber waits (`waits`). So one that is cancelled there has added nothing, and has lost its place: a take
+    /// that comes to it goes on to the next adder (`takes` of [`take`](Stream::take)). One that a take has woken before has added its item.
     pub fn add<W: Wake>(&mut self, wake: &mut W, who: Waiter, off: bool, item: Value) -> Answer
         requires cell { who.cell < self.old.cells }
         requires quiet { W.sent wake.old ≡ None }
         ensures adds { (object serial : ℕ) → Meets (W.knows wake.old) (W.knows wake.new) (W.tells wake.old) self.old.row who off serial (call.Add object item) (record { row = self.new.row; answer = result; sent = W.sent wake.new }) }
         ensures waits { result ≡ Answer.Waits → (off ≡ false) × (self.new.row.values ≡ self.old.row.values) × (W.sent wake.new ≡ None) }
         ensures off { result ≡ Answer.Off → (off ≡ true) × (self.new.row ≡ record self.old.row { takers = [] }) × (W.sent wake.new ≡ None) }
+        ensures dead { result ≡ Answer.Off → All (IsKnown (W.knows wake.new)) (waiters self.old.row.takers) }
         ensures cells { self.new.cells ≡ self.old.cells }
         ensures same { W.tells wake.new ≡ W.tells wake.old }
         ensures goes { W.goes_on wake.old wake.new }
@@ -89,17 +100,20 @@ impl Stream {
         self.adders.wait(queued, off)
     }
 
-    /// Takes the oldest item; the first adder that is alive then adds its own. With no item it is that adder's.
+    /// Takes the oldest item, `Done`; the first adder that is alive has then added its own. With no item, that adder's is taken. Where no adder
+    /// is alive either, the fiber waits for an item, `Waits`; or, where its context is off, `Off` is answered and nothing has changed but
+    /// that the adders, which were all dead, are gone (`off`, `dead`).
     ///
-    /// Where no item is there and no adder is alive, it waits: `Waits`, and nothing was taken (`waits`). A fiber that is cancelled there has
-    /// taken nothing; one that was woken has its item, whatever is cancelled later. Where the context is off it doesn't wait, and
-    /// nothing is taken (`off`).
+    /// # Cancellation
+    /// Nothing is taken while the fiber waits (`waits`). So one that is cancelled there has taken nothing, and has lost its place: an add that
+    /// comes to it hands its item to the next taker (`adds` of [`add`](Stream::add)). One that an add has woken before has the item.
     pub fn take<W: Wake>(&mut self, wake: &mut W, who: Waiter, off: bool) -> Answer
         requires cell { who.cell < self.old.cells }
         requires quiet { W.sent wake.old ≡ None }
         ensures takes { (object serial : ℕ) → Meets (W.knows wake.old) (W.knows wake.new) (W.tells wake.old) self.old.row who off serial (call.Take object) (record { row = self.new.row; answer = result; sent = W.sent wake.new }) }
         ensures waits { result ≡ Answer.Waits → (off ≡ false) × (self.new.row.values ≡ self.old.row.values) × (W.sent wake.new ≡ None) }
         ensures off { result ≡ Answer.Off → (off ≡ true) × (self.new.row ≡ record self.old.row { adders = [] }) × (W.sent wake.new ≡ None) }
+        ensures dead { result ≡ Answer.Off → All (IsKnown (W.knows wake.new)) (waiters self.old.row.adders) }
         ensures cells { self.new.cells ≡ self.old.cells }
         ensures same { W.tells wake.new ≡ W.tells wake.old }
         ensures goes { W.goes_on wake.old wake.new }
@@ -116,7 +130,8 @@ impl Stream {
         self.takers.wait(queued, off)
     }
 
-    /// Takes the oldest item as `take` does, but never waits: `Nothing` exactly where no item is there and no adder is alive.
+    /// Takes the oldest item as [`take`](Stream::take) does, but never waits: `Nothing` exactly where no item is there and no adder is alive.
+    /// Then nothing has changed but that the adders, which were all dead, are gone (`dead`).
     pub fn take_nonblocking<W: Wake>(&mut self, wake: &mut W) -> Answer
         requires quiet { W.sent wake.old ≡ None }
         ensures takes { (who : Wait) (off : Bool) (object serial : ℕ) → Meets (W.knows wake.old) (W.knows wake.new) (W.tells wake.old) self.old.row who off serial (call.TakeNonblocking object) (record { row = self.new.row; answer = result; sent = W.sent wake.new }) }

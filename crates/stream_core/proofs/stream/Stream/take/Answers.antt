@@ -26,7 +26,7 @@ invariant_of-self g c =
     record {
       fits = c.self-2.invariant.fits;
       small = c.self-2.invariant.small;
-      alike = c.self-2.invariant.alike ∙ sym (cells_stay c.args.off c.self-2.inside.takers c.wait.new.self c.wait.ensures.off c.wait.ensures.waits);
+      alike = c.self-2.invariant.alike ∙ sym (cells_stay _ c.self-2.inside.takers c.wait.new.self c.wait.ensures.off c.wait.ensures.waits);
       one_side = subst (λ (l : List Queued). HasOneSide c.wait.new.self.waiting l) (sym gone) (no_adders c.wait.new.self.waiting);
     }
 
@@ -46,3 +46,6 @@ returns-clause-off g c answered =
     let off = is_off c.args.off c.wait.result c.wait.ensures.waits answered in
     let same = ap (λ (list : WaitingList). row_of c.self-2.inside.items.capacity c.self-2.inside.items.items list.waiting c.self-2.inside.adders.waiting) (c.wait.ensures.off off).1 in
     (off, same ∙ seen g after, (none g after).silent)
+
+pub returns-clause-dead : goal.returns-clause-dead
+returns-clause-dead g c answered = (none g (goal.at.returns-clause-dead g c).After-wait).dead
