@@ -4,19 +4,22 @@
 //! whoever waits is woken with `Poisoned`, one fiber a call. The theorems are the clauses of the methods of [`Lock`], by `row_model`'s `Mutexes`; that at
 //! most one fiber has it, whatever is called, is the law [`locked_in_turn`](crate::locked_in_turn).
 
-ghost use Rattle.std.specs.Prelude.{◌≡◌, ◌≢◌, ◌↔◌, ◌<◌, ◌≤◌, ℕ, Bool, true, length, None, IfOk};
+ghost use Rattle.std.specs.Prelude.{◌≡◌, ◌≢◌, ◌↔◌, ◌<◌, ◌≤◌, ℕ, Bool, true, length, [], None, IfOk};
+ghost use Rattle.std.specs.List.{All};
 ghost use Rattle.eio_value.specs.declared.call.Answer.TheVariants as answer;
 ghost use Rattle.eio_value.specs.declared.call.Call.TheVariants as call;
 ghost use Rattle.eio_value.specs.declared.message.Waiter.{Waiter as Wait};
 ghost use Rattle.eio_value.specs.declared.plain.Misuse.TheVariants as misuse;
 ghost use Rattle.eio_value.specs.declared.plain.Plain.TheVariants as plain;
+ghost use Rattle.eio_value.specs.Waking.{IsKnown};
+ghost use Rattle.model_laws.specs.Waits.{HasEachCellOnce};
 ghost use Rattle.row_model.specs.declared.hold.Hold.TheVariants.{Free, Held, Poisoned};
 ghost use Rattle.row_model.specs.Data.{Mutex};
 ghost use Rattle.row_model.specs.Mutexes.{mutex, raises_poisoned};
 ghost use Rattle.row_model.specs.Objects.{called};
 ghost use Rattle.row_model.specs.Row.{raise, done};
+ghost use Rattle.row_model.specs.Skipping.{waiters};
 ghost use Rattle.wait_list.specs.Meeting.{Meets};
-ghost use Rattle.wait_list.specs.Waits.{EachCellOnce};
 
 use crate::waiting::wait;
 use eio_value::{Answer, Member, Misuse, NoMemory, Outcome, Plain, Raised, Value, Waiter, Wake};
@@ -154,6 +157,7 @@ impl Lock {
         requires quiet { W.sent wake.old ≡ None }
         ensures wakes { (who : Wait) (off : Bool) (object : ℕ) → Meets (W.knows wake.old) (W.knows wake.new) (W.tells wake.old) self.old.row who off serial (call.NextWake object) (record { row = self.new.row; answer = result; sent = W.sent wake.new }) }
         ensures nothing { (result ≡ answer.Nothing) ↔ (W.sent wake.new ≡ None) }
+        ensures dead { result ≡ answer.Nothing → self.old.row.values ≡ Mutex Poisoned → All (IsKnown (W.knows wake.new)) (waiters self.old.row.takers) × (self.new.row ≡ record self.old.row { takers = [] }) }
         ensures unchanged { self.old.row.values ≢ Mutex Poisoned → (self.new ≡ self.old) × (wake.new ≡ wake.old) }
         ensures cells { self.new.cells ≡ self.old.cells }
         ensures same { W.tells wake.new ≡ W.tells wake.old }
@@ -171,6 +175,7 @@ impl Lock {
         requires poisoned { self.old.row.values ≡ Mutex Poisoned }
         ensures wakes { (who : Wait) (off : Bool) (object : ℕ) → Meets (W.knows wake.old) (W.knows wake.new) (W.tells wake.old) self.old.row who off serial (call.NextWake object) (record { row = self.new.row; answer = result; sent = W.sent wake.new }) }
         ensures nothing { (result ≡ answer.Nothing) ↔ (W.sent wake.new ≡ None) }
+        ensures dead { result ≡ answer.Nothing → self.old.row.values ≡ Mutex Poisoned → All (IsKnown (W.knows wake.new)) (waiters self.old.row.takers) × (self.new.row ≡ record self.old.row { takers = [] }) }
         ensures cells { self.new.cells ≡ self.old.cells }
         ensures same { W.tells wake.new ≡ W.tells wake.old }
         ensures goes { W.goes_on wake.old wake.new }
@@ -184,7 +189,7 @@ impl Lock {
 
     /// No cell waits twice, and no more fibers than there are cells.
     pub fn each_cell_once(&self)
-        ensures once { EachCellOnce self.now.row.takers }
+        ensures once { HasEachCellOnce self.now.row }
         ensures few { length self.now.row.takers ≤ self.now.cells }
     {
         self.waiters.each_cell_once()

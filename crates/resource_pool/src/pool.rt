@@ -8,11 +8,11 @@ ghost use Rattle.std.specs.Prelude.{◌≡◌, ◌↔◌, ◌<◌, ◌≤◌, �
 ghost use Rattle.eio_value.specs.declared.call.Answer.TheVariants as answer;
 ghost use Rattle.eio_value.specs.declared.call.Call.TheVariants as call;
 ghost use Rattle.eio_value.specs.declared.message.Waiter.{Waiter as Wait};
+ghost use Rattle.model_laws.specs.Waits.{HasEachCellOnce};
 ghost use Rattle.row_model.specs.Objects.{called};
 ghost use Rattle.row_model.specs.Pools.{pool};
 ghost use Rattle.resource_pool.specs.Using.{is_out_of};
 ghost use Rattle.wait_list.specs.Meeting.{Meets};
-ghost use Rattle.wait_list.specs.Waits.{EachCellOnce};
 
 use crate::waiting::wait;
 use eio_value::{Answer, NoMemory, Outcome, Value, Waiter, Wake};
@@ -112,7 +112,7 @@ impl Pool {
 
     /// No cell waits twice, and no more fibers than there are cells.
     pub fn each_cell_once(&self)
-        ensures once { EachCellOnce self.now.row.takers }
+        ensures once { HasEachCellOnce self.now.row }
         ensures few { length self.now.row.takers ≤ self.now.cells }
     {
         self.waiters.each_cell_once()

@@ -1,13 +1,12 @@
 //! Each call once; and for each call that wakes the table of dead waits: none is dead, the first is, all are, and an older entry of a cell is gone.
 
 ghost use Rattle.std.specs.Prelude.{◌≡◌, IfOk};
-ghost use Rattle.wait_list.specs.declared.mem_wake.Told.TheVariants as Told;
 
 use super::{Lock, Pool, Sem};
 use eio_value::{Answer, Value, Waiter};
 use std::alloc::Global;
 use std::test::Fail;
-use wait_list::{MemWake, Told};
+use wait_list::MemWake;
 
 /// Only of a type that may move to another thread.
 fn may_move<T: Send>(_value: &T) {}
@@ -24,24 +23,6 @@ fn waiter(cell: u32, armed: u64) -> Waiter
     }
 }
 
-/// What wakes all but these waits.
-fn alive_but(dead: Vec<(u32, u64)>) -> MemWake
-    ensures { result.told ≡ Told.Nothing }
-{
-    MemWake {
-        dead,
-        told: Told::Nothing,
-    }
-}
-
-/// The stamp of the wait that was woken; 0 where none was.
-fn woken(wake: &MemWake) -> u64 {
-    match wake.told {
-        Told::Resumed(who, _) => who.armed,
-        _ => 0,
-    }
-}
-
 /// A semaphore of which none is left, for which two fibers wait.
 fn awaited_sem(alloc: Global) -> Result<Sem, Fail>
     ensures { IfOk result (λ sem. sem.cells ≡ 4) }
@@ -53,12 +34,12 @@ fn awaited_sem(alloc: Global) -> Result<Sem, Fail>
 }
 
 /// The wait that a release wakes where these waits are dead, and whether one is left then.
-fn released(alloc: Global, dead: Vec<(u32, u64)>) -> Result<(u64, bool), Fail> {
+fn released(alloc: Global, dead: Vec<(u32, u64)>) -> Result<(Option<u64>, bool), Fail> {
     let mut sem = awaited_sem(alloc)?;
-    let mut wake = alive_but(dead);
+    let mut wake = MemWake::new(dead);
     sem.release(&mut wake);
     let is_left = matches!(sem.acquire(waiter(3, 13), true), Answer::Done(_));
-    Ok((woken(&wake), is_left))
+    Ok((wake.woken(), is_left))
 }
 
 #[test]
@@ -66,9 +47,9 @@ fn a_release_wakes_the_first_that_is_alive(rt: HostRuntime) -> Result<(), Fail> 
     let alloc = rt.alloc();
     let first = vec![in alloc; (1, 11)]?;
     let all = vec![in alloc; (1, 11), (2, 12)]?;
-    assert_eq!(rt; released(alloc, Vec::new(alloc))?, (11, false));
-    assert_eq!(rt; released(alloc, first)?, (12, false));
-    assert_eq!(rt; released(alloc, all)?, (0, true));
+    assert_eq!(rt; released(alloc, Vec::new(alloc))?, (Some(11), false));
+    assert_eq!(rt; released(alloc, first)?, (Some(12), false));
+    assert_eq!(rt; released(alloc, all)?, (None, true));
     Ok(())
 }
 
@@ -81,9 +62,9 @@ fn a_semaphore_is_acquired(rt: HostRuntime) -> Result<(), Fail> {
     assert!(rt; matches!(sem.acquire(waiter(1, 12), false), Answer::Waits));
     // The older entry of the cell is gone.
     assert!(rt; matches!(sem.acquire(waiter(1, 13), false), Answer::Waits));
-    let mut wake = alive_but(Vec::new(rt.alloc()));
+    let mut wake = MemWake::new(Vec::new(rt.alloc()));
     sem.release(&mut wake);
-    assert_eq!(rt; woken(&wake), 13);
+    assert_eq!(rt; wake.woken(), Some(13));
     Ok(())
 }
 
@@ -99,12 +80,12 @@ fn awaited_lock(alloc: Global) -> Result<Lock, Fail>
 }
 
 /// The wait that an unlock wakes where these waits are dead, and whether the mutex is free then.
-fn unlocked(alloc: Global, dead: Vec<(u32, u64)>) -> Result<(u64, bool), Fail> {
+fn unlocked(alloc: Global, dead: Vec<(u32, u64)>) -> Result<(Option<u64>, bool), Fail> {
     let mut lock = awaited_lock(alloc)?;
-    let mut wake = alive_but(dead);
+    let mut wake = MemWake::new(dead);
     lock.unlock(&mut wake, 4);
     let is_free = matches!(lock.try_lock(5), Answer::Done(Value::Int(1)));
-    Ok((woken(&wake), is_free))
+    Ok((wake.woken(), is_free))
 }
 
 #[test]
@@ -112,22 +93,22 @@ fn an_unlock_wakes_the_first_that_is_alive(rt: HostRuntime) -> Result<(), Fail> 
     let alloc = rt.alloc();
     let first = vec![in alloc; (1, 11)]?;
     let all = vec![in alloc; (1, 11), (2, 12)]?;
-    assert_eq!(rt; unlocked(alloc, Vec::new(alloc))?, (11, false));
-    assert_eq!(rt; unlocked(alloc, first)?, (12, false));
-    assert_eq!(rt; unlocked(alloc, all)?, (0, true));
+    assert_eq!(rt; unlocked(alloc, Vec::new(alloc))?, (Some(11), false));
+    assert_eq!(rt; unlocked(alloc, first)?, (Some(12), false));
+    assert_eq!(rt; unlocked(alloc, all)?, (None, true));
     Ok(())
 }
 
 /// The wait that is woken with `Poisoned` where these waits are dead.
-fn poisoned(alloc: Global, dead: Vec<(u32, u64)>) -> Result<u64, Fail> {
+fn poisoned(alloc: Global, dead: Vec<(u32, u64)>) -> Result<Option<u64>, Fail> {
     let mut lock = awaited_lock(alloc)?;
-    let mut wake = alive_but(dead);
+    let mut wake = MemWake::new(dead);
     lock.poison();
     let woke = match lock.next_wake(&mut wake, 6) {
-        Answer::Woke(who) => who.armed,
-        _ => 0,
+        Answer::Woke(who) => Some(who.armed),
+        _ => None,
     };
-    if woke != woken(&wake) {
+    if woke != wake.woken() {
         return Err("another was woken")?;
     }
     Ok(woke)
@@ -138,9 +119,9 @@ fn a_poisoned_mutex_wakes_the_first_that_is_alive(rt: HostRuntime) -> Result<(),
     let alloc = rt.alloc();
     let first = vec![in alloc; (1, 11)]?;
     let all = vec![in alloc; (1, 11), (2, 12)]?;
-    assert_eq!(rt; poisoned(alloc, Vec::new(alloc))?, 11);
-    assert_eq!(rt; poisoned(alloc, first)?, 12);
-    assert_eq!(rt; poisoned(alloc, all)?, 0);
+    assert_eq!(rt; poisoned(alloc, Vec::new(alloc))?, Some(11));
+    assert_eq!(rt; poisoned(alloc, first)?, Some(12));
+    assert_eq!(rt; poisoned(alloc, all)?, None);
     Ok(())
 }
 
@@ -159,9 +140,9 @@ fn a_mutex_is_locked(rt: HostRuntime) -> Result<(), Fail> {
     lock.lock(waiter(1, 12), false, 4);
     // The older entry of the cell is gone.
     lock.lock(waiter(1, 13), false, 5);
-    let mut wake = alive_but(Vec::new(rt.alloc()));
+    let mut wake = MemWake::new(Vec::new(rt.alloc()));
     lock.unlock(&mut wake, 6);
-    assert_eq!(rt; woken(&wake), 13);
+    assert_eq!(rt; wake.woken(), Some(13));
     lock.poison();
     assert!(rt; matches!(lock.lock(waiter(1, 14), true, 7), Answer::Raised(_)));
     Ok(())
@@ -179,12 +160,12 @@ fn awaited_pool(alloc: Global) -> Result<Pool, Fail>
 }
 
 /// The wait that gets the resource that is put back where these waits are dead, and whether it is idle then.
-fn put_back(alloc: Global, dead: Vec<(u32, u64)>) -> Result<(u64, bool), Fail> {
+fn put_back(alloc: Global, dead: Vec<(u32, u64)>) -> Result<(Option<u64>, bool), Fail> {
     let mut pool = awaited_pool(alloc)?;
-    let mut wake = alive_but(dead);
+    let mut wake = MemWake::new(dead);
     pool.put(&mut wake, 0);
     let is_idle = matches!(pool.use_(waiter(3, 13), true), Answer::Done(Value::Int(0)));
-    Ok((woken(&wake), is_idle))
+    Ok((wake.woken(), is_idle))
 }
 
 #[test]
@@ -192,9 +173,9 @@ fn a_put_wakes_the_first_that_is_alive(rt: HostRuntime) -> Result<(), Fail> {
     let alloc = rt.alloc();
     let first = vec![in alloc; (1, 11)]?;
     let all = vec![in alloc; (1, 11), (2, 12)]?;
-    assert_eq!(rt; put_back(alloc, Vec::new(alloc))?, (11, false));
-    assert_eq!(rt; put_back(alloc, first)?, (12, false));
-    assert_eq!(rt; put_back(alloc, all)?, (0, true));
+    assert_eq!(rt; put_back(alloc, Vec::new(alloc))?, (Some(11), false));
+    assert_eq!(rt; put_back(alloc, first)?, (Some(12), false));
+    assert_eq!(rt; put_back(alloc, all)?, (None, true));
     Ok(())
 }
 
@@ -207,9 +188,9 @@ fn a_pool_is_used(rt: HostRuntime) -> Result<(), Fail> {
     pool.use_(waiter(1, 12), false);
     // The older entry of the cell is gone.
     pool.use_(waiter(1, 13), false);
-    let mut wake = alive_but(Vec::new(rt.alloc()));
+    let mut wake = MemWake::new(Vec::new(rt.alloc()));
     assert!(rt; matches!(pool.put(&mut wake, 7), Answer::Nothing));
     pool.put(&mut wake, 0);
-    assert_eq!(rt; woken(&wake), 13);
+    assert_eq!(rt; wake.woken(), Some(13));
     Ok(())
 }
