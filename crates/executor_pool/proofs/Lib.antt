@@ -1,0 +1,6 @@
+mod Loads
+mod Working
+mod Manning
+mod Relieving
+mod Submitting
+mod Finishing

@@ -1,0 +1,6 @@
+pub mod Lists
+pub mod Finding
+pub mod Standing
+pub mod Waits
+pub mod Told
+pub mod Meeting
