@@ -1,7 +1,8 @@
 //! A list of waiting fibers.
 //!
 //! It is a queue with a mark for each cell, whether that cell stands in it (`Holds`). So an older entry of a cell is looked for only where
-//! there is one, and all else takes constant time for each fiber that leaves. The theorems are the clauses of the methods.
+//! there is one; but for that and `take_numbered`, each call takes constant time for each fiber that leaves. The theorems are the clauses
+//! of the methods of [`WaitList`].
 
 ghost use Rattle.std.specs.Prelude.{◌≡◌, ◌<◌, ◌≤◌, true, false, [], ◌∷◌, ◌++◌, ◌==◌, length, map, drop, find, slice_get, None, IfOk};
 ghost use Rattle.std.specs.List.{position};
