@@ -1,5 +1,5 @@
--- What a call on an object in code gives, over any `Wake`, where it asks one fiber of a list alone: the first that it is for. Where that one is dead it leaves
--- the list, and the call gives the step of its row on the row without it.
+-- What a call on an object in code gives, over any `Wake`, where it asks one fiber of a list alone: the first that it is for. Where that one is dead
+-- it leaves the list, and the call gives the step of its row on the row without it.
 use Rattle.std.specs.Prelude.{◌≡◌, ℕ, Bool, List, [], ◌∷◌, filter, find, Some}
 use Rattle.eio_value.specs.declared.call.Call.{Call}
 use Rattle.eio_value.specs.declared.message.Waiter.{Waiter}
@@ -13,8 +13,8 @@ abbrev pub Parts : (pick : Queued → Bool) → List Queued → (dead rest : Lis
 Parts pick list [] rest = rest ≡ list
 Parts pick list (queued ∷ more) rest = (more ≡ []) × (find pick list ≡ Some queued) × (rest ≡ but_first pick list)
 
--- what is known of waits before and after the call, whether it is told which are alive, the row before, the list and which fiber the call is for, and what the
--- call gives on a row
+-- what is known of waits before and after the call, whether it is told which are alive, the row before, the list and which fiber the call is for, and
+-- what the call gives on a row
 pub record AsksOne (knew knows : Test) (tells : Bool) (row : Row) (side : Side) (pick : Queued → Bool) (Gives : Row → Type 0) : Type 0 where
   pub dead : List Queued
   pub rest : List Queued

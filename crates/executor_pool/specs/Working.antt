@@ -1,4 +1,5 @@
--- What the workers of an executor have to do, under any calls: on each run jobs of at most 100 hundredths together, and jobs start in order of their numbers.
+-- What the workers of an executor have to do, under any calls: on each run jobs of at most 100 hundredths together, and jobs start in order of their
+-- numbers.
 use Rattle.std.specs.Prelude.{◌≡◌, ℕ, zero, suc, ◌+◌, ◌≤◌, ◌==◌, if◌then◌else◌, List, [], ◌∷◌, ◌++◌, map, Option, Some, None}
 use Rattle.eio_value.specs.Sending.{Sent, Resumes, Starts}
 use Rattle.model_laws.specs.Items.{Move, Calls, Strikes}

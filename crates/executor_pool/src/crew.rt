@@ -1,8 +1,8 @@
 //! The workers of an executor, and the jobs that run on them.
 //!
 //! A job goes to the first worker that it fits, which then stands last. A worker's load is the weight of the jobs that run on it, and at most 100
-//! (`AreWorking`). As each job weighs something, at most 100 jobs run on a worker, for which the constructor takes the room. The theorems are the clauses of
-//! the methods, by `row_model`'s `Executors`.
+//! (`AreWorking`). As each job weighs something, at most 100 jobs run on a worker, for which the constructor takes the room. The theorems are the
+//! clauses of the methods, by `row_model`'s `Executors`.
 
 ghost use Rattle.std.specs.Prelude.{◌≡◌, ◌↔◌, ◌==◌, ◌<◌, ◌≤◌, [], find, map, nat_le, ◌+◌, true, false, Some, None, IfOk};
 ghost use Rattle.std.specs.List.{position};

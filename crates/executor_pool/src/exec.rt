@@ -1,9 +1,9 @@
 //! An executor: the jobs that were submitted and haven't started, its workers with the jobs that run, and the fibers that wait for a job.
 //!
-//! Jobs are numbered from 0 and start in order of their numbers. The job at the head goes to the first worker that it fits, which then stands last; where it
-//! fits none, no job behind it starts. A submitter waits with the number of its job, and no two with one number (`IsSubmitting`), so the end of a job
-//! asks one fiber at most. The theorems are the clauses of the methods of [`Exec`], by `row_model`'s `Executors`; what holds under any calls are
-//! the laws of src/laws.rt.
+//! Jobs are numbered from 0 and start in order of their numbers. The job at the head goes to the first worker that it fits, which then stands last;
+//! where it fits none, no job behind it starts. A submitter waits with the number of its job, and no two with one number (`IsSubmitting`), so the end
+//! of a job asks one fiber at most. The theorems are the clauses of the methods of [`Exec`], by `row_model`'s `Executors`; what holds under any calls
+//! are the laws of src/laws.rt.
 
 ghost use Rattle.std.specs.Prelude.{◌≡◌, ◌↔◌, ◌<◌, ◌≤◌, ◌+◌, ◌-◌, ◌^◌, ℕ, Bool, true, find, length, map, slice_get, None, IfOk};
 ghost use Rattle.eio_value.specs.declared.call.Answer.TheVariants as answer;
@@ -67,8 +67,8 @@ impl Model for Exec {
 }
 
 impl Exec {
-    /// An executor with a worker in each of these domains, for fibers with cells below `cells`. Room is taken for as many queued jobs as there are cells, and
-    /// for 100 running ones a worker; no other call takes memory.
+    /// An executor with a worker in each of these domains, for fibers with cells below `cells`. Room is taken for as many queued jobs as there are
+    /// cells, and for 100 running ones a worker; no other call takes memory.
     ///
     /// # Errors
     /// [`NoMemory`].
@@ -87,12 +87,13 @@ impl Exec {
         })
     }
 
-    /// Queues the job, and the fiber waits for its end: `Waits`. `Nothing` where as many jobs are queued as there are cells, and only there, whether the fiber's
-    /// context is cancelled or not; else `Off` where it is. After both nothing has changed. A job of more than 100 hundredths fits no worker.
+    /// Queues the job, and the fiber waits for its end: `Waits`. `Nothing` where as many jobs are queued as there are cells, and only there, whether
+    /// the fiber's context is cancelled or not; else `Off` where it is. After both nothing has changed. A job of more than 100 hundredths fits no
+    /// worker.
     ///
     /// # Cancellation
-    /// A fiber that is cancelled while it waits goes without the outcome, and its job stays: it starts in its turn, and when it ends the fiber isn't woken
-    /// (clauses `submits`, and `ends` of [`done`](Exec::done)).
+    /// A fiber that is cancelled while it waits goes without the outcome, and its job stays: it starts in its turn, and when it ends the fiber isn't
+    /// woken (clauses `submits`, and `ends` of [`done`](Exec::done)).
     pub fn submit(&mut self, who: Waiter, off: bool, job: Job) -> Answer
         requires cell { who.cell < self.old.cells }
         requires weighty { 0 < job.weight }
@@ -121,8 +122,8 @@ impl Exec {
         Answer::Waits
     }
 
-    /// Starts the job at the head on the first worker that it fits: `Started`, with that worker's domain and the job's number. `Nothing` where no job is queued or
-    /// the head fits no worker, and only there; then nothing has changed.
+    /// Starts the job at the head on the first worker that it fits: `Started`, with that worker's domain and the job's number. `Nothing` where no job
+    /// is queued or the head fits no worker, and only there; then nothing has changed.
     pub fn next_start<W: Wake>(&mut self, wake: &mut W) -> Answer
         requires quiet { W.sent wake.old ≡ None }
         ensures starts { (who : Wait) (off : Bool) (object serial : ℕ) → Meets (W.knows wake.old) (W.knows wake.new) (W.tells wake.old) self.old.row who off serial (call.NextStart object) (record { row = self.new.row; answer = result; sent = W.sent wake.new }) }
@@ -148,8 +149,8 @@ impl Exec {
         }
     }
 
-    /// The job with this number has ended, with this outcome: `Done(())`. Its weight is taken off its worker, and its submitter goes on with the outcome, if it
-    /// still waits. `Nothing` where that job doesn't run, and only there; then nothing has changed.
+    /// The job with this number has ended, with this outcome: `Done(())`. Its weight is taken off its worker, and its submitter goes on with the
+    /// outcome, if it still waits. `Nothing` where that job doesn't run, and only there; then nothing has changed.
     pub fn done<W: Wake>(&mut self, wake: &mut W, number: u64, outcome: Outcome) -> Answer
         requires quiet { W.sent wake.old ≡ None }
         ensures ends { (who : Wait) (off : Bool) (object serial : ℕ) → MeetsOne (W.knows wake.old) (W.knows wake.new) (W.tells wake.old) self.old.row who off serial (call.Done object number outcome) (record { row = self.new.row; answer = result; sent = W.sent wake.new }) }

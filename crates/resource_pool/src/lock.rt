@@ -1,8 +1,8 @@
 //! A mutex: whether it is free, held or poisoned, and the fibers that wait for it.
 //!
-//! An unlock passes it on to the first waiter that is alive, so it is never free while such a fiber waits. Once it is poisoned nobody gets it, and
-//! whoever waits is woken with `Poisoned`, one fiber a call. The theorems are the clauses of the methods of [`Lock`], by `row_model`'s `Mutexes`; that at
-//! most one fiber has it, whatever is called, is the law [`locked_in_turn`](crate::locked_in_turn).
+//! An unlock passes it on to the first waiter that is alive, and frees it only where there is none. Once it is poisoned nobody gets it, and
+//! whoever waits is woken with `Poisoned`, one fiber a call. The theorems are the clauses of the methods of [`Lock`], by `row_model`'s `Mutexes`;
+//! that at most one fiber has it, whatever is called, is the law [`locked_in_turn`](crate::locked_in_turn).
 
 ghost use Rattle.std.specs.Prelude.{◌≡◌, ◌≢◌, ◌↔◌, ◌<◌, ◌≤◌, ℕ, Bool, true, length, [], None, IfOk};
 ghost use Rattle.std.specs.List.{All};
@@ -67,12 +67,12 @@ impl Lock {
         })
     }
 
-    /// Takes the mutex, `Done(())`, where it is free, and raises `Poisoned` with this serial where it is poisoned, whether the fiber's context is cancelled or
-    /// not. Where it is held the fiber waits, `Waits`; or, where its context is cancelled, `Off` is answered and the mutex is as it was.
+    /// Takes the mutex, `Done(())`, where it is free, and raises `Poisoned` with this serial where it is poisoned, whether the fiber's context is
+    /// cancelled or not. Where it is held the fiber waits, `Waits`; or, where its context is cancelled, `Off` is answered and the mutex is as it was.
     ///
     /// # Cancellation
-    /// A fiber that is cancelled while it waits hasn't got the mutex, and has lost its place: an unlock that comes to it passes the mutex on to the next one
-    /// (clause `unlocks` of [`unlock`](Lock::unlock)). One that an unlock has woken before has the mutex, and has to unlock it.
+    /// A fiber that is cancelled while it waits hasn't got the mutex, and has lost its place: an unlock that comes to it passes the mutex on to the
+    /// next one (clause `unlocks` of [`unlock`](Lock::unlock)). One that an unlock has woken before has the mutex, and has to unlock it.
     pub fn lock(&mut self, who: Waiter, off: bool, serial: u64) -> Answer
         requires cell { who.cell < self.old.cells }
         ensures locks { (object : ℕ) → called self.old.row who off serial (call.Lock object) ≡ record { row = self.new.row; answer = result; sent = None } }
@@ -107,8 +107,8 @@ impl Lock {
         }
     }
 
-    /// Passes the mutex on to the first waiter that is alive, or frees it: `Done(())`. Where it is poisoned `Poisoned` is raised with this serial, and where it
-    /// is free `NotLocked`; the mutex is then as it was.
+    /// Passes the mutex on to the first waiter that is alive, or frees it: `Done(())`. Where it is poisoned `Poisoned` is raised with this serial,
+    /// and where it is free `NotLocked`; the mutex is then as it was.
     pub fn unlock<W: Wake>(&mut self, wake: &mut W, serial: u64) -> Answer
         requires quiet { W.sent wake.old ≡ None }
         ensures unlocks { (who : Wait) (off : Bool) (object : ℕ) → Meets (W.knows wake.old) (W.knows wake.new) (W.tells wake.old) self.old.row who off serial (call.Unlock object) (record { row = self.new.row; answer = result; sent = W.sent wake.new }) }
@@ -151,8 +151,8 @@ impl Lock {
         self.hold = Hold::Poisoned;
     }
 
-    /// Wakes the first waiter that is alive with `Poisoned`, raised with this serial: `Woke`. `Nothing` where nobody is, or where the mutex isn't poisoned;
-    /// then all is as it was, but for the dead.
+    /// Wakes the first waiter that is alive with `Poisoned`, raised with this serial: `Woke`. `Nothing` where nobody is, or where the mutex isn't
+    /// poisoned; then all is as it was, but for the dead.
     pub fn next_wake<W: Wake>(&mut self, wake: &mut W, serial: u64) -> Answer
         requires quiet { W.sent wake.old ≡ None }
         ensures wakes { (who : Wait) (off : Bool) (object : ℕ) → Meets (W.knows wake.old) (W.knows wake.new) (W.tells wake.old) self.old.row who off serial (call.NextWake object) (record { row = self.new.row; answer = result; sent = W.sent wake.new }) }

@@ -65,8 +65,8 @@ impl Pool {
         })
     }
 
-    /// Takes the idle resource that was put back last, or a new one: `Done(Int(resource))`. Where all are made and none is idle the fiber waits for one, `Waits`;
-    /// or, where its context is cancelled, `Off` is answered and the pool is as it was.
+    /// Takes the idle resource that was put back last, or a new one: `Done(Int(resource))`. Where all are made and none is idle the fiber waits for
+    /// one, `Waits`; or, where its context is cancelled, `Off` is answered and the pool is as it was.
     ///
     /// # Cancellation
     /// A fiber that is cancelled while it waits has got no resource, and has lost its place: a `put` that comes to it hands its resource to the next one
@@ -88,8 +88,8 @@ impl Pool {
         wait(&mut self.waiters, who, off)
     }
 
-    /// Puts a resource back, `Done(())`: the first waiter that is alive gets it and is woken, or it is the last among the idle. `Nothing` where the resource isn't
-    /// out, and only there; then nothing has changed. It is out where it was made and isn't idle.
+    /// Puts a resource back, `Done(())`: the first waiter that is alive gets it and is woken, or it is the last among the idle. `Nothing` where the
+    /// resource isn't out, and only there; then nothing has changed. It is out where it was made and isn't idle.
     pub fn put<W: Wake>(&mut self, wake: &mut W, resource: u32) -> Answer
         requires quiet { W.sent wake.old ≡ None }
         ensures puts { (who : Wait) (off : Bool) (object serial : ℕ) → Meets (W.knows wake.old) (W.knows wake.new) (W.tells wake.old) self.old.row who off serial (call.Put object resource) (record { row = self.new.row; answer = result; sent = W.sent wake.new }) }

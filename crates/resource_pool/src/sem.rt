@@ -1,8 +1,8 @@
 //! A semaphore: how many are left to acquire, and the fibers that wait for one.
 //!
-//! While one is left nobody waits but the dead, who stand here until a release comes to them. As waiters are entered behind and asked from the front, the
-//! semaphore is fair. The theorems are the clauses of the methods of [`Sem`], by `row_model`'s `Semaphores`; what its count is after any
-//! calls is the law [`counts_what_is_left`](crate::counts_what_is_left).
+//! A fiber waits only where none is left, and a release counts one more only where no waiter is alive. As waiters are entered behind and asked from
+//! the front, the one that has waited longest gets the next. The theorems are the clauses of the methods of [`Sem`], by `row_model`'s `Semaphores`;
+//! what its count is after any calls is the law [`counts_what_is_left`](crate::counts_what_is_left).
 
 ghost use Rattle.std.specs.Prelude.{◌≡◌, ◌↔◌, ◌<◌, ◌≤◌, ℕ, Bool, true, length, None, IfOk};
 ghost use Rattle.eio_value.specs.declared.call.Answer.TheVariants as answer;
@@ -69,8 +69,8 @@ impl Sem {
         wait(&mut self.waiters, who, off)
     }
 
-    /// Gives one back, `Done(())`: the first waiter that is alive has acquired it and is woken, or one more is left. `Nothing` where the count is `u32`'s
-    /// greatest number, and only there; then nothing has changed.
+    /// Gives one back, `Done(())`: the first waiter that is alive has acquired it and is woken, or one more is left. `Nothing` where the count is
+    /// `u32`'s greatest number, and only there; then nothing has changed.
     pub fn release<W: Wake>(&mut self, wake: &mut W) -> Answer
         requires quiet { W.sent wake.old ≡ None }
         ensures releases { (who : Wait) (off : Bool) (object serial : ℕ) → Meets (W.knows wake.old) (W.knows wake.new) (W.tells wake.old) self.old.row who off serial (call.Release object) (record { row = self.new.row; answer = result; sent = W.sent wake.new }) }

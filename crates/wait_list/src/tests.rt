@@ -102,3 +102,15 @@ fn a_job_is_started(rt: HostRuntime) -> Result<(), Fail> {
     assert_eq!(rt; wake.woken(), None);
     Ok(())
 }
+
+#[test]
+fn the_first_with_a_number_leaves(rt: HostRuntime) -> Result<(), Fail> {
+    let alloc = rt.alloc();
+    let mut list = two_wait(alloc)?;
+    assert!(rt; list.take_numbered(4).is_none());
+    assert!(rt; matches!(list.take_numbered(9), Some(queued) if queued.who.armed == 11));
+    let mut wake = MemWake::new(Vec::new(alloc));
+    list.wake_first(&mut wake, &Outcome::Ok(Value::Unit));
+    assert_eq!(rt; wake.woken(), Some(12));
+    Ok(())
+}
