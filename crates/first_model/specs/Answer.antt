@@ -1,19 +1,10 @@
 -- What the command `mock` writes for an input, and how it ends.
-use Rattle.std.specs.Prelude.{ℕ, Bool, true, false, nat_le, nat_lt, if◌then◌else◌, List, [], ◌∷◌, ◌++◌, length, Option, Some, None, codes, slice_get}
-use Rattle.std.specs.Str.{bytes_eq}
+use Rattle.std.specs.Prelude.{ℕ, Bool, true, false, nat_le, nat_lt, if◌then◌else◌, List, [], ◌++◌, length, Option, Some, None, codes, slice_get}
 use Rattle.first_model.specs.declared.Ending.{Ending}
 use Rattle.first_model.specs.declared.Ending.TheVariants as ending
-use Rattle.first_model.specs.declared.Command.{Command}
-use Rattle.first_model.specs.declared.Command.TheVariants as command
 use Rattle.first_model.specs.Reading.{tree_in}
 use Rattle.first_model.specs.Script.{Block, script_of, statements}
 use Rattle.first_model.specs.Machine.{State, Moved, move, run, opening}
-
--- the words ask for `mock` exactly where they are that one word
-abbrev pub meaning : List (List ℕ) → Option Command
-meaning [] = None
-meaning (word ∷ []) = if bytes_eq word (codes "mock") then Some command.Mock else None
-meaning (word ∷ another ∷ words) = None
 
 -- at most so many bytes are accepted
 abbrev pub most_bytes : ℕ

@@ -1,14 +1,10 @@
--- What the command `mock` does to its source and its sink, by the status that it answers.
--- Where a source tells the bytes left, or a sink the bytes held, these say which were read and written.
-use Rattle.std.specs.Prelude.{◌≡◌, ℕ, ◌≤◌, List, drop, Some, None}
-use Rattle.std.specs.declared.option.Option.{Option}
-use Rattle.std.specs.Io.KnownBytes.{Keeps, Appends}
-use Rattle.trace_out.specs.Causes.{Rose, AppendsFront}
+-- What is due to an input of the command `mock`.
+use Rattle.trace_out.specs.Outcome.{Due}
 use Rattle.trace_out.specs.declared.status.Status.{Status}
 use Rattle.trace_out.specs.declared.status.Status.TheVariants as status
 use Rattle.first_model.specs.declared.Ending.{Ending}
 use Rattle.first_model.specs.declared.Ending.TheVariants as ending
-use Rattle.first_model.specs.Answer.{answer}
+use Rattle.first_model.specs.Answer.{Answer}
 
 -- the status of an ending
 abbrev pub ended : Ending → Status
@@ -19,53 +15,6 @@ ended ending.Deadlock = status.Deadlock
 ended ending.OutOfSteps = status.OutOfSteps
 ended ending.Limit = status.Limit
 
--- one byte more than is accepted is read, and no more
-abbrev pub most_read : ℕ
-most_read = 262145
-
--- the first n bytes were read, or all where there are fewer
-abbrev pub HasRead : ℕ → Option (List ℕ) → Option (List ℕ) → Type 0
-HasRead n None new = Unit {0}
-HasRead n (Some bytes) None = ⊥
-HasRead n (Some bytes) (Some left) = left ≡ drop n bytes
-
--- some bytes were read
-pub record HasReadSome (old new : Option (List ℕ)) : Type 0 where
-  pub count : ℕ
-  pub within : count ≤ most_read
-  pub read : HasRead count old new
-
--- what was read at this answer: nothing where the words mean nothing; perhaps a front where reading or memory failed; else all
-abbrev pub ReadsFor : Status → Option (List ℕ) → Option (List ℕ) → Type 0
-ReadsFor status.Usage old new = Keeps old new
-ReadsFor status.ReadFault old new = HasReadSome old new
-ReadsFor status.NoMemory old new = HasReadSome old new
-ReadsFor _ old new = HasRead most_read old new
-
--- the machine answers this status, and its whole text was written
-pub record IsAnswered (n : ℕ) (bytes : List ℕ) (old new : Option (List ℕ)) (result : Status) : Type 0 where
-  pub status : ended (answer n bytes).ending ≡ result
-  pub text : Appends old new (answer n bytes).text
-
--- what was written at this answer to these bytes, where at most n moves are made: the machine's whole text at its own status,
--- a front of it where writing or memory failed, and nothing where nothing was read or reading failed
-abbrev pub WritesFor : Status → ℕ → List ℕ → Option (List ℕ) → Option (List ℕ) → Type 0
-WritesFor status.Usage n bytes old new = Keeps old new
-WritesFor status.ReadFault n bytes old new = Keeps old new
-WritesFor status.WriteFault n bytes old new = AppendsFront old new (answer n bytes).text
-WritesFor status.NoMemory n bytes old new = AppendsFront old new (answer n bytes).text
-WritesFor result n bytes old new = IsAnswered n bytes old new result
-
--- a fault is answered only where the count of the source, or of the sink, rose
-abbrev pub HasItsCause : Status → (source_old source_new sink_old sink_new : ℕ) → Type 0
-HasItsCause status.ReadFault source_old source_new sink_old sink_new = Rose source_old source_new
-HasItsCause status.WriteFault source_old source_new sink_old sink_new = Rose sink_old sink_new
-HasItsCause _ source_old source_new sink_old sink_new = Unit {0}
-
--- the answers that no script of these forms leads to
-abbrev pub CanCome : Status → Type 0
-CanCome status.Raised = ⊥
-CanCome status.Deadlock = ⊥
-CanCome status.OutOfSteps = ⊥
-CanCome status.Limit = ⊥
-CanCome _ = Unit {0}
+-- the text of an answer, and the status of its ending
+abbrev pub due : Answer → Due
+due answer = record { text = answer.text; status = ended answer.ending }

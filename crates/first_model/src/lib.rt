@@ -16,9 +16,3 @@ pub enum Ending {
     OutOfSteps,
     Limit,
 }
-
-/// A command that words can ask for.
-#[derive(Clone, Copy, Debug, PartialEq, Eq)]
-pub enum Command {
-    Mock,
-}

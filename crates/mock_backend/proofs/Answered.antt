@@ -13,10 +13,11 @@ use Rattle.first_model.specs.Script.{Block}
 use Rattle.first_model.specs.Machine.{run, opening}
 use Rattle.first_model.specs.Answer.{Answer, accepted, answer, ending_in, last_line}
 use Rattle.first_model.specs.Laws.{IsOver}
-use Rattle.first_model.specs.Outcome.{ended, HasRead, ReadsFor, WritesFor, CanCome}
+use Rattle.trace_out.specs.Outcome.{HasRead, ReadsFor, WritesFor, CanCome}
+use Rattle.first_model.specs.Outcome.{ended, due}
 use Rattle.first_model.proofs.FrontDecides.{answer_front, answer_refused, answer_runs}
 use Rattle.first_model.proofs.AlwaysOver.{always_over-answer}
-use Rattle.mock_backend.specs.Input.{ReadsInput}
+use Rattle.trace_out.specs.Input.{ReadsInput}
 use Rattle.mock_backend.specs.Trace.{trace_of}
 
 -- what is known of an input that is a script, or is none
@@ -60,7 +61,7 @@ reads_ended ending.Deadlock old new h = h
 reads_ended ending.OutOfSteps old new h = h
 reads_ended ending.Limit old new h = h
 
-writes_ended : (e : Ending) (n : ℕ) (bytes : List ℕ) (old new : Option (List ℕ)) → ended (answer n bytes).ending ≡ ended e → Appends old new (answer n bytes).text → WritesFor (ended e) n bytes old new
+writes_ended : (e : Ending) (n : ℕ) (bytes : List ℕ) (old new : Option (List ℕ)) → ended (answer n bytes).ending ≡ ended e → Appends old new (answer n bytes).text → WritesFor (ended e) (due (answer n bytes)) old new
 writes_ended ending.Ok n bytes old new h a = record { status = h; text = a }
 writes_ended ending.Raised n bytes old new h a = record { status = h; text = a }
 writes_ended ending.Refused n bytes old new h a = record { status = h; text = a }
@@ -69,7 +70,7 @@ writes_ended ending.OutOfSteps n bytes old new h a = record { status = h; text =
 writes_ended ending.Limit n bytes old new h a = record { status = h; text = a }
 
 -- the answer to what was read is written whole
-pub writes_whole : (left rest : Option (List ℕ)) (n : ℕ) (input : List ℕ) (e : Ending) (old new : Option (List ℕ)) → ReadsInput left rest input → e ≡ (answer n input).ending → Appends old new (answer n input).text → IfSome left (λ bytes. WritesFor (ended e) n bytes old new)
+pub writes_whole : (left rest : Option (List ℕ)) (n : ℕ) (input : List ℕ) (e : Ending) (old new : Option (List ℕ)) → ReadsInput left rest input → e ≡ (answer n input).ending → Appends old new (answer n input).text → IfSome left (λ bytes. WritesFor (ended e) (due (answer n bytes)) old new)
 writes_whole None rest n input e old new reads ends a = tt
 writes_whole (Some bytes) rest n input e old new reads ends a =
     let same = same_answer n bytes input rest reads in

@@ -9,6 +9,5 @@ pub mod Forks
 pub mod Closes
 pub mod Ends
 pub mod Endings
-pub mod Consumed
 pub mod Running
 pub mod Answered

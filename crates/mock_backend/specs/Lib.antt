@@ -2,6 +2,5 @@ pub mod Kept
 pub mod Calls
 pub mod Switches
 pub mod Moves
-pub mod Input
 pub mod Faults
 pub mod Trace

@@ -3,14 +3,15 @@
 //! [`mock_run`] carries the headline's first half, which the top call hands on: its clauses say what is read, what is written
 //! and which status is answered, for every source and sink.
 ghost use Rattle.std.specs.Prelude.{◌≡◌, ◌≢◌, ◌≤◌, IfSome};
-ghost use Rattle.first_model.specs.Outcome.{ended, ReadsFor, WritesFor, HasItsCause, CanCome};
+ghost use Rattle.trace_out.specs.Outcome.{ReadsFor, WritesFor, HasItsCause, CanCome};
+ghost use Rattle.first_model.specs.Answer.{answer};
+ghost use Rattle.first_model.specs.Outcome.{ended, due};
 
 use crate::fault::RunFault;
-use crate::input::{InputError, read_input};
 use crate::respond::respond;
 use first_model::Ending;
 use std::alloc::Global;
-use trace_out::{Sink, Source, Status};
+use trace_out::{InputError, Sink, Source, Status, read_input};
 
 /// The status of an ending.
 fn to_status(ending: Ending) -> Status
@@ -42,7 +43,7 @@ pub fn mock_run<S: Source, K: Sink>(
 
     // What is read and written at each answer, where source and sink tell their bytes.
     ensures read { ReadsFor result (S.left source.old) (S.left source.new) }
-    ensures text { IfSome (S.left source.old) (λ bytes. WritesFor result steps bytes (K.held sink.old) (K.held sink.new)) }
+    ensures text { IfSome (S.left source.old) (λ bytes. WritesFor result (due (answer steps bytes)) (K.held sink.old) (K.held sink.new)) }
     ensures unwritten { result ≡ Status.ReadFault → sink.new ≡ sink.old }
 
     // A fault has its cause in the device's count, which never falls.

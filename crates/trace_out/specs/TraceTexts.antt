@@ -1,13 +1,13 @@
 -- The lines of the trace that a move writes.
-use Rattle.std.specs.Prelude.{ℕ, List, [], ◌∷◌, ◌++◌, codes}
+use Rattle.std.specs.Prelude.{⊤, ℕ, ◌<◌, List, [], ◌∷◌, ◌++◌, length, All, codes}
 use Rattle.std.specs.Fmt.{signed_decimal}
 use Rattle.std.specs.List.{flat_map}
 use Rattle.eio_value.specs.declared.mock_call.Said.{Said}
 use Rattle.eio_value.specs.declared.mock_call.Said.TheVariants.{Nothing, Read, Wrote, Copied}
 use Rattle.eio_value.specs.declared.value.TextId.{TextId}
 use Rattle.eio_value.specs.Escapes.{quoted}
-use Rattle.eio_value.specs.Table.{text_at}
-use Rattle.eio_value.specs.Values.{show}
+use Rattle.eio_value.specs.Table.{HasText, text_at}
+use Rattle.eio_value.specs.Values.{HasTextsOf, show}
 use Rattle.trace_out.specs.declared.line.Did.{Did}
 use Rattle.trace_out.specs.declared.line.Did.TheVariants.{Trace, Tick, Mock}
 use Rattle.trace_out.specs.declared.line.Line.{Line}
@@ -48,3 +48,21 @@ traced texts names did = []
 -- the lines of the trace that a line's move wrote
 abbrev pub trace_text : (texts : List (List ℕ)) → (names : List TextId) → Line → List ℕ
 trace_text texts names line = traced texts names line.did
+
+-- the flow has a name, and the table has these bytes of it
+pub record HasFlowLine (texts : List (List ℕ)) (names : List TextId) (flow : ℕ) (bytes : TextId) : Type 0 where
+  pub named : flow < length names
+  pub text : HasText texts bytes
+
+-- all flows and bytes of these lines are there
+abbrev pub CanSay : (texts : List (List ℕ)) → (names : List TextId) → Said → Type 0
+CanSay texts names Nothing = ⊤
+CanSay texts names (Read flow bytes) = HasFlowLine texts names flow bytes
+CanSay texts names (Wrote flow bytes) = HasFlowLine texts names flow bytes
+CanSay texts names (Copied from to bytes) = HasFlowLine texts names from bytes × HasFlowLine texts names to bytes
+
+-- all texts and flows that a move's lines show are there
+abbrev pub CanTrace : (texts : List (List ℕ)) → (names : List TextId) → Did → Type 0
+CanTrace texts names (Trace operands) = All (HasTextsOf texts) operands
+CanTrace texts names (Mock said) = CanSay texts names said
+CanTrace texts names did = ⊤

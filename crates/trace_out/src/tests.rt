@@ -1,7 +1,9 @@
 //! What no clause says: that a call gets through, what the devices do at values from outside, and what
 //! happens to a reader and a writer that fail.
+ghost use Rattle.std.specs.Prelude.{◌≡◌};
+
 use super::*;
-use eio_value::{NoMemory, Operands, Value};
+use eio_value::{NoMemory, Operands, Texts, Value};
 use std::alloc::Global;
 use std::io;
 use std::io::{ErrorKind, Read, Write};
@@ -245,4 +247,46 @@ fn operands_are_listed(rt: HostRuntime) {
     assert!(rt; none.as_slice().is_empty());
     let two = none.with(Value::Int(-5)).with(Value::Unit);
     assert_eq!(rt; two.as_slice(), [Value::Int(-5), Value::Unit].as_slice());
+}
+
+#[test]
+fn an_input_is_read_to_its_end(rt: HostRuntime) -> Result<(), Fail> {
+    let mut source = MemSource {
+        left: b"abcdefg".to_vec(rt.alloc())?,
+        most: 3,
+        failing: [5].to_vec(rt.alloc())?,
+        calls: 0,
+        faults: 0,
+    };
+    let input = read_input(rt.alloc(), &mut source).map_err(|_| NoMemory)?;
+    assert_eq!(rt; input.as_slice(), b"abcdefg".as_slice());
+    // The end was seen by the fourth call.
+    assert_eq!(rt; read_input(rt.alloc(), &mut source).is_err(), true);
+    assert_eq!(rt; (source.calls, source.faults), (5, 1));
+    Ok(())
+}
+
+/// The line of a move that did this.
+fn line_of(did: Did) -> Line
+    ensures { result.did ≡ did }
+{
+    Line {
+        stamp: 1,
+        domain: 0,
+        fiber: 0,
+        did,
+        reply: Said2::Done(Value::Unit),
+    }
+}
+
+#[test]
+fn moves_are_traced(rt: HostRuntime) -> Result<(), Fail> {
+    let texts = Texts::new(rt.alloc());
+    let one = Operands::none().with(Value::Int(1));
+    let mut out = Vec::new(rt.alloc());
+    render_trace(&texts, &[], &line_of(Did::Tick(5)), &mut out)?;
+    render_trace(&texts, &[], &line_of(Did::Yield), &mut out)?;
+    render_trace(&texts, &[], &line_of(Did::Trace(one)), &mut out)?;
+    assert_eq!(rt; out.as_slice(), b"+mock time is now 5\n+1\n".as_slice());
+    Ok(())
 }

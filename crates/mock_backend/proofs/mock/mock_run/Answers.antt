@@ -3,7 +3,7 @@ use Rattle.std.specs.Io.KnownBytes.{Appends}
 use Rattle.trace_out.specs.Causes.{AppendsFront}
 use Rattle.first_model.specs.Answer.{answer}
 use Rattle.mock_backend.proofs.Answered.{always_comes, front_of_answer, reads_ended, writes_whole}
-use Rattle.mock_backend.proofs.Consumed.{has_read_through}
+use Rattle.trace_out.proofs.Consumed.{has_read_through}
 use Rattle.mock_backend.proofs.mock.mock_run.Goals as goal
 
 pub returns-in-Ok-respond-clause-read : goal.returns-in-Ok-respond-clause-read

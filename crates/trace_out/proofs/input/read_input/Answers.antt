@@ -1,7 +1,7 @@
 use Rattle.std.proofs.Common.{arith}
 use Rattle.std.proofs.lemmas.Grind.{common_steps}
-use Rattle.mock_backend.proofs.Consumed.{has_read_some}
-use Rattle.mock_backend.proofs.input.read_input.Goals as goal
+use Rattle.trace_out.proofs.Consumed.{has_read_some}
+use Rattle.trace_out.proofs.input.read_input.Goals as goal
 
 -- what was taken before and the piece whose bytes found no room
 pub returns-then-is_err-clause-some : goal.returns-then-is_err-clause-some

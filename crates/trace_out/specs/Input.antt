@@ -3,9 +3,9 @@ use Rattle.std.specs.Prelude.{ℕ, ◌<◌, ◌≤◌, List, length, Result, Ok,
 use Rattle.std.specs.declared.option.Option.{Option}
 use Rattle.std.specs.Io.KnownBytes.{Consumes, IsAtEnd}
 use Rattle.trace_out.specs.Causes.{Rose}
-use Rattle.first_model.specs.Outcome.{most_read}
-use Rattle.mock_backend.specs.declared.input.InputError.{InputError}
-use Rattle.mock_backend.specs.declared.input.InputError.TheVariants as error
+use Rattle.trace_out.specs.Outcome.{most_read}
+use Rattle.trace_out.specs.declared.input.InputError.{InputError}
+use Rattle.trace_out.specs.declared.input.InputError.TheVariants as error
 
 -- all the input, or its first 262,145 bytes
 pub record ReadsInput (old new : Option (List ℕ)) (bytes : List ℕ) : Type 0 where

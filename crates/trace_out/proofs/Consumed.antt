@@ -6,8 +6,8 @@ use Rattle.std.proofs.lemmas.Grind.{common_steps}
 use Rattle.std.proofs.KnownBytes.{Consumes-trans}
 use Rattle.std.specs.declared.option.Option.{Option}
 use Rattle.std.specs.Io.KnownBytes.{Consumes}
-use Rattle.first_model.specs.Outcome.{HasRead, HasReadSome}
-use Rattle.mock_backend.specs.Input.{ReadsInput}
+use Rattle.trace_out.specs.Outcome.{HasRead, HasReadSome}
+use Rattle.trace_out.specs.Input.{ReadsInput}
 
 rest_of : (all front rest : List ℕ) → all ≡ front ++ rest → rest ≡ drop (length front) all
 rest_of all front rest e =

@@ -3,11 +3,11 @@
 //! The loop keeps: the bytes in `input` are those that the source gave, at most 262,145 of them, and the source's count
 //! of faults hasn't fallen. `read_input` says how much was read at each answer.
 ghost use Rattle.std.specs.Prelude.{◌≡◌, ◌≤◌, IfOk};
-ghost use Rattle.first_model.specs.Outcome.{HasReadSome};
-ghost use Rattle.mock_backend.specs.Input.{ReadsInput, FailsByCause};
+ghost use Rattle.trace_out.specs.Outcome.{HasReadSome};
+ghost use Rattle.trace_out.specs.Input.{ReadsInput, FailsByCause};
 
+use crate::Source;
 use std::alloc::Global;
-use trace_out::Source;
 
 /// The most bytes that are read: one more than an accepted input has.
 const MOST_READ: usize = 262_145;
@@ -17,15 +17,18 @@ const PIECE: usize = 4096;
 
 /// Why the input wasn't read.
 #[derive(Clone, Copy, Debug)]
-pub(crate) enum InputError {
+pub enum InputError {
     /// The source failed.
     Fault,
     /// Memory was refused.
     NoMemory,
 }
 
-/// The whole input, or its first 262,145 bytes.
-pub(crate) fn read_input<S: Source>(alloc: Global, source: &mut S) -> Result<Vec<u8>, InputError>
+/// Reads the whole input, or its first 262,145 bytes, one more than an accepted input has.
+///
+/// # Errors
+/// `Fault` where the source failed, and `NoMemory` where memory was refused; a front of the input was read then.
+pub fn read_input<S: Source>(alloc: Global, source: &mut S) -> Result<Vec<u8>, InputError>
     ensures input { IfOk result (λ input. ReadsInput (S.left source.old) (S.left source.new) input.items) }
     ensures some { HasReadSome (S.left source.old) (S.left source.new) }
     ensures later { S.faults source.old ≤ S.faults source.new }
