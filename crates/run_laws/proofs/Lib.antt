@@ -12,5 +12,3 @@ pub mod Preparing
 pub mod Sharing
 pub mod Raises
 pub mod Serials
-pub mod Bare
-pub mod BareScripts

@@ -8,7 +8,8 @@ use Rattle.machine_model.specs.Answers.{ran}
 use Rattle.machine_model.specs.Mock.{move, moves, mock}
 use Rattle.machine_model.specs.Moves.{own_call}
 use Rattle.machine_model.specs.Trace.{run, trace}
-use Rattle.run_laws.specs.Meanings.{MeanTheSame, RunAlike, RunsGoByMeaning}
+use Rattle.script_laws.specs.Meanings.{MeanTheSame}
+use Rattle.run_laws.specs.Meanings.{RunAlike, RunsGoByMeaning}
 
 abbrev placeless : Script → Script
 placeless script = record script { formed = []; first_domain = None }

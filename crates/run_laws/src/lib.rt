@@ -4,7 +4,8 @@
 #![tactic(auto)]
 
 ghost use Rattle.run_laws.specs.Beginnings.{MovesBeginAlike, StatesBeginAlike, TracesBeginAlike};
-ghost use Rattle.run_laws.specs.Meanings.{PlacesDontCount, RunsGoByMeaning};
+ghost use Rattle.script_laws.specs.Meanings.{PlacesDontCount};
+ghost use Rattle.run_laws.specs.Meanings.{RunsGoByMeaning};
 ghost use Rattle.run_laws.specs.Moves.{MovesWhereSomethingIsLeft, ShortRunsAreOver};
 ghost use Rattle.run_laws.specs.Serials.{LinesTellNumbered, NumbersAreNotReused, RaisesAreApart, RaisesAreCounted, RaisesAreNumbered, SerialsRise, SerialsRiseByRaises};
 
@@ -24,7 +25,7 @@ pub fn moves_where_something_is_left()
 {}
 
 /// Two scripts with the same names, declarations, bodies, texts and texts of failures have the same moves, states,
-/// trace and answer: a run depends on no place of a form. Trees that are the same but for their places come to two such
+/// trace and answer: a run depends on no place of a form. Trees that are the same but for their places stand for two such
 /// scripts, or are both refused for the same reason.
 pub fn runs_go_by_meaning()
     ensures meaning { RunsGoByMeaning }

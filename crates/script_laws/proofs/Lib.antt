@@ -12,3 +12,7 @@ pub mod SharedStatements
 pub mod SharedScripts
 pub mod Commands
 pub mod Unsound
+pub mod Bare
+pub mod BareScripts
+pub mod Printing
+pub mod Generated

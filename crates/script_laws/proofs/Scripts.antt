@@ -183,7 +183,7 @@ mutual
   row_fits lists Nil within = tt
   row_fits lists (And tree row) within = (numbers_fit lists tree within.0, row_fits lists row within.1)
 
-unrefused : {A E : Type 0} (refusal : E → Refusal) (r : Result A E) (x : A) → or_refused refusal r ≡ Ok x → r ≡ Ok x
+pub unrefused : {A E : Type 0} (refusal : E → Refusal) (r : Result A E) (x : A) → or_refused refusal r ≡ Ok x → r ≡ Ok x
 unrefused refusal (Ok y) x e = ap Ok (same_Ok y x e)
 unrefused refusal (Err y) x e = absurd (err-ok _ _ e)
 

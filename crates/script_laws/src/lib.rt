@@ -3,6 +3,9 @@
 //! A law is stated in `specs/`, and what proves it stands in the files of `proofs/`.
 #![tactic(auto)]
 
+ghost use Rattle.script_laws.specs.Generated.{GeneratedAreScripts};
+ghost use Rattle.script_laws.specs.Meanings.{PlacesDontCount};
+ghost use Rattle.script_laws.specs.Printing.{PrintIsReadAgain, PrintStandsForTheScript};
 ghost use Rattle.script_laws.specs.Readings.{DomainScriptsAreShared, InputScriptsAreSound, MockedScriptsAreSound};
 ghost use Rattle.script_laws.specs.Readings.{ReadScriptsAreSound, SharedScriptsHaveNoMockedForm};
 
@@ -20,4 +23,22 @@ pub fn read_scripts_are_sound()
 pub fn shared_scripts_have_no_mocked_form()
     ensures trees { SharedScriptsHaveNoMockedForm }
     ensures domains { DomainScriptsAreShared }
+{}
+
+/// Trees that are the same but for their places stand for the same script, places aside, or are both refused for the same
+/// reason.
+pub fn places_dont_count()
+    ensures { PlacesDontCount }
+{}
+
+/// What `print` writes for a script spells a tree that stands for that script, places aside. Where it has at most 262,144
+/// bytes, it is an input: it is read as that script, places aside, and printed as the same bytes.
+pub fn print_reads_again()
+    ensures stands { PrintStandsForTheScript }
+    ensures kept { PrintIsReadAgain }
+{}
+
+/// The tree of the generator stands for a script, of however many forks.
+pub fn generated_is_a_script()
+    ensures { GeneratedAreScripts }
 {}

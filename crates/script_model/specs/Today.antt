@@ -1,7 +1,7 @@
--- What is built today. The program's theorem will speak of these; rows and comparisons take everything as built.
+-- What is built today. The program's theorem speaks of these; rows and comparisons take everything as built.
 use Rattle.std.specs.Prelude.{[], ◌∷◌}
 use Rattle.script_model.specs.Features.{Built}
-use Rattle.script_model.specs.declared.Feature.TheVariants.{FirstForms}
+use Rattle.script_model.specs.declared.Feature.TheVariants.{FirstForms, Reading}
 
 abbrev pub built_today : Built
-built_today = FirstForms ∷ []
+built_today = FirstForms ∷ Reading ∷ []

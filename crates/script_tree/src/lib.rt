@@ -2,6 +2,8 @@
 //! bytes of its canonical spelling.
 #![tactic(auto)]
 
+mod builder;
+mod copy;
 mod fault;
 mod gap;
 mod reader;
@@ -10,6 +12,7 @@ mod text;
 mod tree;
 mod write;
 
+pub use builder::TreeBuilder;
 pub use fault::TreeFault;
 pub use reader::read_tree;
 pub use tree::{Node, Tree};

@@ -1,6 +1,6 @@
 //! Small inputs: the pieces of their trees, or their faults, each with its place; and their canonical spellings.
 
-use super::{Node, Tree, read_tree, write_tree};
+use super::{Node, Tree, TreeBuilder, read_tree, write_tree};
 use std::alloc::{AllocError, Global};
 use std::test::Fail;
 
@@ -135,5 +135,26 @@ fn prints_in_canonical_spelling(rt: HostRuntime) -> Result<(), Fail> {
             "{input}"
         );
     }
+    Ok(())
+}
+
+#[test]
+#[tactic(auto, unfolding(crate::specs::Pieces::pieces, crate::specs::Pieces::row_pieces, crate::specs::Pieces::tree_of))]
+fn builds_a_tree(rt: HostRuntime) -> Result<(), Fail> {
+    let mut tree = TreeBuilder::new(rt.alloc());
+    tree.open()?;
+    tree.form(b"trace")?;
+    tree.text(b"done\n")?;
+    tree.close()?;
+    tree.number(-7)?;
+    tree.word(b"x")?;
+    tree.close()?;
+    let tree = tree.finish();
+    let mut spelling = Vec::new(rt.alloc());
+    write_tree(&tree, &mut spelling)?;
+    assert_eq!(rt;
+        String::from_utf8(spelling)?.as_str(),
+        "((trace \"done\\n\") -7 x)\n"
+    );
     Ok(())
 }

@@ -1,8 +1,10 @@
 //! A tree as the row of its pieces in reading order. A list is the piece where it opens, the pieces of its trees, and the
 //! piece where it closes. Contracts see a [`Tree`] as the definition's tree itself: that its pieces spell one tree and no
-//! more is its invariant, which [`Draft::into_tree`] asks for once.
+//! more, and that its numbers fit into 64 bits, is its invariant, which [`Draft::into_tree`] asks for once.
 
 ghost use Rattle.std.specs.Prelude.{◌≡◌, [], ◌∷◌, ◌++◌, OnOk};
+ghost use Rattle.script_tree.specs.Fitting.{Fits};
+ghost use Rattle.script_tree.specs.Pieces.{piece_of};
 
 use std::alloc::{AllocError, Global};
 use std::marker::Model;
@@ -25,7 +27,9 @@ pub struct Tree {
 
 impl Model for Tree {
     ghost use Rattle.std.specs.Prelude.{map};
+    ghost use Rattle.std.specs.List.{AllByRecursion as Each};
     ghost use Rattle.script_model.specs.Trees as model;
+    ghost use Rattle.script_tree.specs.Fitting.{Fits};
     ghost use Rattle.script_tree.specs.Pieces.{IsWhole, piece_of, tree_of};
     ghost use Rattle.script_tree.specs.TreeCode.{tree_code};
 
@@ -35,11 +39,13 @@ impl Model for Tree {
 
     ghost view = { λ tree. tree_of (map piece_of tree.nodes.items) };
 
-    ghost invariant = { λ tree. IsWhole (map piece_of tree.nodes.items) };
+    ghost invariant = { λ tree. IsWhole (map piece_of tree.nodes.items) × Each Fits (map piece_of tree.nodes.items) };
 }
 
 impl Tree {
     ghost use Rattle.std.specs.Prelude.{◌≡◌, map};
+    ghost use Rattle.std.specs.List.{AllByRecursion as Each};
+    ghost use Rattle.script_tree.specs.Fitting.{Fits};
     ghost use Rattle.script_tree.specs.Pieces.{piece_of, pieces};
 
     /// Its pieces, in reading order.
@@ -47,6 +53,13 @@ impl Tree {
         ensures { map piece_of result.now ≡ pieces self.now }
     {
         &self.nodes
+    }
+
+    /// A law: its numbers fit into 64 bits.
+    pub fn numbers_fit(&self)
+        ensures { Each Fits (pieces self.now) }
+    {
+        let _ = &self.nodes;
     }
 }
 
@@ -62,7 +75,12 @@ impl Model for Draft {
 
     ghost Value = { List Piece };
 
+    ghost use Rattle.std.specs.List.{AllByRecursion as Each};
+    ghost use Rattle.script_tree.specs.Fitting.{Fits};
+
     ghost view = { λ draft. map piece_of draft.nodes.items };
+
+    ghost invariant = { λ draft. Each Fits (map piece_of draft.nodes.items) };
 }
 
 impl Draft {
@@ -82,6 +100,7 @@ impl Draft {
     pub(crate) fn push(&mut self, node: Node) -> Result<(), AllocError>
         ensures { OnOk result (self.new ≡ self.old ++ piece_of node ∷ []) }
     {
+        fits(&node);
         self.nodes.push(node)?;
         Ok(())
     }
@@ -93,5 +112,14 @@ impl Draft {
     {
         let Draft { nodes } = self;
         Tree { nodes }
+    }
+}
+
+/// The number of a node fits into 64 bits, as one that was read.
+fn fits(node: &Node)
+    ensures { Fits (piece_of node.now) }
+{
+    if let Node::Number { number, .. } = node {
+        let _number = *number;
     }
 }

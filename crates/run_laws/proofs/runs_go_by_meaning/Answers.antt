@@ -1,4 +1,4 @@
-use Rattle.run_laws.proofs.BareScripts.{places_dont_count}
+use Rattle.script_laws.proofs.BareScripts.{places_dont_count}
 use Rattle.run_laws.proofs.Meanings.{runs_go_by_meaning}
 use Rattle.run_laws.proofs.runs_go_by_meaning.Goals as goal
 

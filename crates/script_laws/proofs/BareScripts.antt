@@ -1,6 +1,6 @@
 -- The declarations, the bodies and the whole script are read alike from trees that are the same but for their places.
 use Rattle.std.proofs.Common.{◌≡◌, ℕ, ◌+◌, ◌&&◌, Bool, true, false, List, [], ◌∷◌, length, nat_lt, Option, Some, None, refl, sym, ap, subst, ◌∙◌}
-use Rattle.std.specs.Prelude.{is_none, is_some, not, ℤ, pos, negsuc, option_map, codes, Result, Ok, Err}
+use Rattle.std.specs.Prelude.{map, is_none, is_some, not, ℤ, pos, negsuc, option_map, codes, Result, Ok, Err}
 use Rattle.std.specs.List.{list_any}
 use Rattle.std.specs.Str.{bytes_eq}
 use Rattle.eio_value.specs.declared.flow_step.FlowStep.TheVariants.{Data, Fault, Pause}
@@ -12,15 +12,15 @@ use Rattle.script_model.specs.Faults.{ScriptFault, Shape, Size, Twice, Name}
 use Rattle.script_model.specs.FlowSteps.{StepHead, DataHead, FaultHead, PauseHead, data_of, step_by, step_head, step, steps}
 use Rattle.script_model.specs.Kinds.{Kind, StreamKind, PromiseKind, SemaphoreKind, MutexKind, PoolKind, ExecutorKind, FlowKind, DirectoryKind}
 use Rattle.script_model.specs.Limits.{capacities, counts, sizes, most_workers, most_declarations, most_flow_steps, most_entries, most_bodies}
-use Rattle.script_model.specs.Reads.{Made, nothing_made, Reads, ◌>>>◌, gives, refuses, requires_that, one_step, one_entry}
+use Rattle.script_model.specs.Reads.{Formed, Made, nothing_made, Reads, ◌>>>◌, gives, refuses, requires_that, one_step, one_entry}
 use Rattle.script_model.specs.Results.{◌>>=◌}
 use Rattle.script_model.specs.Scopes.{named_in}
-use Rattle.script_model.specs.Scripts.{Script, Parts, items_behind, with_first, parts_of, domains_in, bodies_of, body_scope, body, domains, read_parts, script_by, script_of_parts, is_one, root_of, script_of}
+use Rattle.script_model.specs.Scripts.{Script, Parts, items_behind, with_first, parts_of, domains_in, bodies_of, body_scope, body, domains, first_place, read_parts, script_by, script_of_parts, is_one, root_of, script_of}
 use Rattle.script_model.specs.Syntax.{Block}
 use Rattle.script_model.specs.Trees.{Tree, Word, Number, Text, Branch, Trees, Nil, And, place_of}
 use Rattle.tree_laws.specs.Places.{bare, bare_row}
-use Rattle.run_laws.specs.Meanings.{reason_of, ReadAlike, PlacesDontCount}
-use Rattle.run_laws.proofs.Bare.{bare_made, bare_fault, bare_result, Alike, behind, given, refused, required, form_one, interned_alike, text_alike, number_alike, if_form, block_of_alike, statements_alike}
+use Rattle.script_laws.specs.Meanings.{MeanTheSame, bare_formed, bare_place, reason_of, ReadAlike, PlacesDontCount}
+use Rattle.script_laws.proofs.Bare.{bare_made, bare_fault, bare_result, Alike, behind, given, refused, required, form_one, interned_alike, text_alike, number_alike, if_form, block_of_alike, statements_alike}
 
 -- ## Steps and entries
 
@@ -272,6 +272,16 @@ bare_reason (Size at) = refl
 bare_reason (Twice at) = refl
 bare_reason (Name at) = refl
 
+-- places that are 0 stay so
+bare_once : (formed : List Formed) → map bare_formed formed ≡ map bare_formed (map bare_formed formed)
+bare_once [] = refl
+bare_once (one ∷ others) = ap (λ rest. bare_formed one ∷ rest) (bare_once others)
+
+place_once : (row : Trees) → option_map bare_place (first_place row) ≡ option_map bare_place (first_place (bare_row row))
+unfolding bare_row
+place_once Nil = refl
+place_once (And tree row) = refl
+
 script_parts_alike : (parts : Parts) → ReadAlike (script_of_parts parts) (script_of_parts (bare_parts parts))
 script_parts_alike parts = by (read_parts parts nothing_made) ((read_alike parts).same nothing_made)
   where
@@ -279,7 +289,11 @@ script_parts_alike parts = by (read_parts parts nothing_made) ((read_alike parts
         → ReadAlike (found >>= λ found. Ok (script_by parts found.0.0 found.0.1 found.1)) (read_parts (bare_parts parts) nothing_made >>= λ found. Ok (script_by (bare_parts parts) found.0.0 found.0.1 found.1))
     by (Ok found) e =
         subst (λ (y : Result ((Declared × List Block) × Made) ScriptFault). ReadAlike (Ok (script_by parts found.0.0 found.0.1 found.1)) (y >>= λ found. Ok (script_by (bare_parts parts) found.0.0 found.0.1 found.1))) e
-        (record { names = refl; declarations = refl; bodies = refl; texts = refl; failures = refl })
+        (record {
+          meaning = record { names = refl; declarations = refl; bodies = refl; texts = refl; failures = refl };
+          formed = bare_once found.1.formed;
+          first_domain = place_once parts.behind;
+        })
     by (Err fault) e =
         subst (λ (y : Result ((Declared × List Block) × Made) ScriptFault). ReadAlike (Err fault) (y >>= λ found. Ok (script_by (bare_parts parts) found.0.0 found.0.1 found.1))) e (bare_reason fault)
 
@@ -317,13 +331,20 @@ bare_is_alike tree =
     subst (λ found. ReadAlike (script_by_items (place_of tree) (items_behind (codes "eio") tree)) (script_by_items (place_of (bare tree)) found)) (sym (items_behind_alike (codes "eio") tree))
     (items_script_alike (place_of tree) (place_of (bare tree)) (items_behind (codes "eio") tree))
 
-same_as_third : (a b c : Result Script ScriptFault) → ReadAlike a c → ReadAlike b c → ReadAlike a b
-same_as_third (Ok a) (Ok b) (Ok c) f g = record {
+same_meaning : (a b c : Script) → MeanTheSame a c → MeanTheSame b c → MeanTheSame a b
+same_meaning a b c f g = record {
   names = f.names ∙ sym g.names;
   declarations = f.declarations ∙ sym g.declarations;
   bodies = f.bodies ∙ sym g.bodies;
   texts = f.texts ∙ sym g.texts;
   failures = f.failures ∙ sym g.failures;
+}
+
+same_as_third : (a b c : Result Script ScriptFault) → ReadAlike a c → ReadAlike b c → ReadAlike a b
+same_as_third (Ok a) (Ok b) (Ok c) f g = record {
+  meaning = same_meaning a b c f.meaning g.meaning;
+  formed = f.formed ∙ sym g.formed;
+  first_domain = f.first_domain ∙ sym g.first_domain;
 }
 same_as_third (Err a) (Err b) (Err c) f g = f ∙ sym g
 same_as_third (Ok a) (Ok b) (Err c) f g = absurd f

@@ -18,11 +18,9 @@ use Rattle.script_model.specs.Statements.{form_node, block_of, statements, state
 use Rattle.script_model.specs.Syntax.{AndBlock, AndExpression, AwaitCancel, Begins, Branches, BufRead, BufWrite, Cancel, Check, Copy, Daemon, Declared, Directory, Done, Fail, Fork, Give, If, Let, LetForm, Loop, NoBlocks, NoExpressions, Now, NumberValue, OnObject, OnObjectWith, OnPath, OnReader, OnRelease, OpenDir, Opened, Operation, Plain, Promising, Protect, Put, Raise, Repeat, Save, Sleep, Statements, Sub, Submit, Switch, TakeBytes, TextValue, Then, Trace, Try, UnitValue, UsePool, UseRw, Variable, Yield}
 use Rattle.script_model.specs.Trees.{Tree, Word, Number, Text, Branch, Trees, Nil, And}
 use Rattle.tree_laws.specs.Places.{bare, bare_row}
+use Rattle.script_laws.specs.Meanings.{bare_formed}
 
 -- ## Places set to 0
-
-abbrev pub bare_formed : Formed → Formed
-bare_formed formed = record formed { at = 0 }
 
 abbrev pub bare_made : Made → Made
 bare_made made = record made { formed = map bare_formed made.formed }
