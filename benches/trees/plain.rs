@@ -6,7 +6,7 @@ const MOST_INPUT: usize = 262_144;
 const ROUNDS: u32 = 50;
 const MOST_LISTS: u32 = 64;
 
-enum Node {
+pub enum Node {
     Word { at: u32, word: Vec<u8> },
     Number { at: u32, number: i64 },
     Text { at: u32, text: Vec<u8> },
@@ -16,7 +16,7 @@ enum Node {
 
 #[derive(Debug)]
 #[allow(dead_code)]
-enum TreeFault {
+pub enum TreeFault {
     Byte(u32),
     Unclosed(u32),
     Stray(u32),
@@ -149,7 +149,7 @@ impl Reader<'_> {
     }
 }
 
-fn read_tree(bytes: &[u8]) -> Result<Vec<Node>, TreeFault> {
+pub fn read_tree(bytes: &[u8]) -> Result<Vec<Node>, TreeFault> {
     let mut reader = Reader { bytes, at: 0, nodes: Vec::new() };
     reader.gap();
     reader.tree(MOST_LISTS)?;

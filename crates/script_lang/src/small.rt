@@ -8,6 +8,3 @@ mod reader;
 pub use arena::{Script, Statement};
 pub use fault::SmallFault;
 pub use reader::read_small;
-
-#[cfg(test)]
-mod tests;

@@ -1,0 +1,42 @@
+use Rattle.std.proofs.Common.{◌≡◌, w64, rules, codes, ap, sym, ◌∙◌}
+use mir.Val.{to_z, of_z}
+use Rattle.script_model.specs.Scripts.{is_one}
+use Rattle.script_model.specs.Trees.{place_of}
+use Rattle.script_lang.specs.Ahead.{ahead, tree_ahead}
+use Rattle.script_lang.proofs.ScriptsRead.{root_no_list, root_other, root_known, root_no_version, root_no_main, root_version, root_read, flipped, flipped_true}
+use Rattle.script_lang.proofs.reader.root.Goals as goal
+
+pub returns-in_default : goal.returns-in_default
+returns-in_default c = rw c.place-at.ensures (root_no_list (tree_ahead c.args.cursor.now) c.in_default.ensures.0)
+
+pub returns-then-not-is_word : goal.returns-then-not-is_word
+returns-then-not-is_word c = rw c.place-at.ensures (root_other c.in-Some.head.at c.in-Some.head.word.now c.args.cursor.now c.enter.new.self c.in-Some.ensures (flipped c.is_word.result (codes "eio") c.in-Some.head.word.now c.is_word.ensures.test c.if-not-is_word.true))
+
+pub returns-in_default-number_ahead : goal.returns-in_default-number_ahead
+returns-in_default-number_ahead c =
+    let known = root_known c.in-Some.head.at c.in-Some.head.word.now c.args.cursor.now c.enter.new.self c.in-Some.ensures (flipped_true c.is_word.result (codes "eio") c.in-Some.head.word.now c.is_word.ensures.test c.if-not-is_word.false) in
+    rw c.place-at.ensures (known ∙ root_no_version (place_of (tree_ahead c.args.cursor.now)) (ahead c.enter.new.self) c.in_default-number_ahead.ensures)
+
+pub returns-in_default-2 : goal.returns-in_default-2
+returns-in_default-2 c =
+    let known = root_known c.in-Some.head.at c.in-Some.head.word.now c.args.cursor.now c.enter.new.self c.in-Some.ensures (flipped_true c.is_word.result (codes "eio") c.in-Some.head.word.now c.is_word.ensures.test c.if-not-is_word.false) in
+    rw c.place-at.ensures (known ∙ root_no_main (place_of (tree_ahead c.args.cursor.now)) c.in-Some-number_ahead.version.at c.in-Some-number_ahead.version.number c.enter.new.self c.pass.new.self c.in-Some-number_ahead.ensures c.pass.ensures (rw c.in_default-2.is at c.in_ok-count.ensures))
+
+pub returns-then-not-is_one : goal.returns-then-not-is_one
+returns-then-not-is_one c =
+    let known = root_known c.in-Some.head.at c.in-Some.head.word.now c.args.cursor.now c.enter.new.self c.in-Some.ensures (flipped_true c.is_word.result (codes "eio") c.in-Some.head.word.now c.is_word.ensures.test c.if-not-is_word.false) in
+    let found = rw c.in-Some-2.is at c.in_ok-count.ensures in
+    let same : to_z w64 (of_z w64 c.in-Some-number_ahead.version.number) ≡ c.in-Some-number_ahead.version.number = search rules in
+    known ∙ root_version (place_of (tree_ahead c.args.cursor.now)) c.in-Some-number_ahead.version.at c.in-Some-number_ahead.version.number c.enter.new.self c.pass.new.self found.parts c.in-Some-number_ahead.ensures c.pass.ensures found.is (ap is_one (sym same) ∙ (sym c.is_one.ensures ∙ c.if-not-is_one.true))
+
+pub returns : goal.returns
+returns c =
+    let known = root_known c.in-Some.head.at c.in-Some.head.word.now c.args.cursor.now c.enter.new.self c.in-Some.ensures (flipped_true c.is_word.result (codes "eio") c.in-Some.head.word.now c.is_word.ensures.test c.if-not-is_word.false) in
+    let found = rw c.in-Some-2.is at c.in_ok-count.ensures in
+    let same : to_z w64 (of_z w64 c.in-Some-number_ahead.version.number) ≡ c.in-Some-number_ahead.version.number = search rules in
+    record {
+      parts = found.parts;
+      is = found.is;
+      count = found.count;
+      gives = known ∙ root_read (place_of (tree_ahead c.args.cursor.now)) c.in-Some-number_ahead.version.at c.in-Some-number_ahead.version.number c.enter.new.self c.pass.new.self found.parts c.in-Some-number_ahead.ensures c.pass.ensures found.is (ap is_one (sym same) ∙ (sym c.is_one.ensures ∙ c.if-not-is_one.false));
+    }

@@ -1,0 +1,232 @@
+//! Reading of scripts: `(eio 1 DECLARATION* (main STATEMENT*) (domain STATEMENT*)*)`. The theorem is the clauses of [`read_script`].
+#![tactic(auto, using(crate::proofs::Counts::some_ahead, crate::proofs::Counts::none_ahead, crate::proofs::Counts::count_past))]
+
+ghost use Rattle.std.specs.Prelude.{◌≡◌, ◌+◌, ◌<◌, ◌≤◌, IfOk, IfErr, codes, is_some, length, true, false};
+ghost use Rattle.script_model.specs.Declarations as declared;
+ghost use Rattle.script_model.specs.Scripts.{script_of, items_behind, body_scope, domains_in, first_place, is_one};
+ghost use Rattle.script_model.specs.Trees.{Trees};
+ghost use Rattle.script_lang.specs.Ahead.{ahead, has_tree, tree_ahead, IsPast};
+ghost use Rattle.script_lang.specs.Blocks.{Blocked};
+ghost use Rattle.script_lang.specs.DeclarationsRead.{IsAtMain, is_main};
+ghost use Rattle.script_lang.specs.declared.fault.ScriptFault.TheVariants.{NoMemory};
+ghost use Rattle.script_lang.specs.Readings.{Fails};
+ghost use Rattle.script_lang.specs.ScriptsRead.{domain_of, one_if, Bodied, Roots, Names};
+
+use crate::cursor::Cursor;
+use crate::declarations::{Declared, declarations as read_declarations, is_at_end};
+use crate::draft::Draft;
+use crate::fault::ScriptFault;
+use crate::heads::is_word;
+use crate::scope::Scope;
+use crate::script::{Parts, Script};
+use crate::statements::statements;
+use script_tree::Tree;
+use std::alloc::Global;
+
+/// The most bodies of a script.
+const MOST_BODIES: usize = 8;
+
+/// The script that a tree stands for.
+///
+/// # Errors
+/// The fault of the first refused node, in reading order, with its offset.
+pub fn read_script(alloc: Global, tree: &Tree) -> Result<Script, ScriptFault>
+    ensures ok { IfOk result (λ script. script_of tree.now ≡ Ok script) }
+    ensures fault { IfErr result (λ fault. Fails fault (script_of tree.now)) }
+{
+    let mut cursor = Cursor::new(tree.nodes());
+    let count = root(&mut cursor)?;
+    let mut draft = Draft::new(alloc);
+    let declared = read_declarations(&mut cursor, &mut draft, count)?;
+    let Declared {
+        names,
+        declarations,
+        scope: named,
+    } = declared;
+    let scope = Scope::new(alloc, &named);
+    let mut rest = cursor.again();
+    let read = read_bodies(&mut rest, &mut draft, &scope)?;
+    let parts = Parts {
+        tree: tree.copy(alloc)?,
+        names,
+        declarations,
+        bodies: read.numbers,
+        first_domain: read.first_domain,
+    };
+    Ok(Script::new(parts, draft)?)
+}
+
+/// What stands before the declarations; how many bodies a worker may name.
+fn root(cursor: &mut Cursor) -> Result<u32, ScriptFault>
+    requires { has_tree cursor.old ≡ true }
+    ensures { Roots result (script_of (tree_ahead cursor.old)) (ahead cursor.new) }
+{
+    let at = cursor.place();
+    let Some(head) = cursor.enter() else {
+        return Err(ScriptFault::Shape(at));
+    };
+    if !is_word(head.word, b"eio") {
+        return Err(ScriptFault::Shape(at));
+    }
+    let Some(version) = cursor.number_ahead() else {
+        return Err(ScriptFault::Shape(at));
+    };
+    cursor.pass();
+    let Some(count) = bodies_named(cursor)? else {
+        return Err(ScriptFault::Shape(at));
+    };
+    if !is_one(version.number) {
+        return Err(ScriptFault::Shape(version.at));
+    }
+    Ok(count)
+}
+
+/// Whether a number is the version of these scripts.
+fn is_one(version: i64) -> bool
+    ensures { result ≡ is_one version }
+{
+    version == 1
+}
+
+/// How many bodies a worker may name: the first list that begins with `main`, and each that begins with `domain` behind it. None
+/// where there is no `main`.
+fn bodies_named(cursor: &Cursor) -> Result<Option<u32>, ScriptFault>
+    ensures { Names result (ahead cursor.now) }
+{
+    let mut look = cursor.again();
+    find_main(&mut look);
+    if !look.has_tree() {
+        return Ok(None);
+    }
+    skip(&mut look);
+    Ok(Some(count_domains(&mut look)?))
+}
+
+/// Passes what stands before the first list that begins with `main`.
+fn find_main(cursor: &mut Cursor)
+    ensures { IsAtMain cursor.old cursor.new }
+{
+    while !is_at_end(cursor) {
+        skip(cursor);
+    }
+}
+
+/// How many bodies there are with main, which was passed.
+fn count_domains(cursor: &mut Cursor) -> Result<u32, ScriptFault>
+    ensures count { IfOk result (λ count. count ≡ domains_in (ahead cursor.old) + 1) }
+    ensures fault { IfErr result (λ fault. fault ≡ NoMemory) }
+{
+    let mut count: u32 = 1;
+    while cursor.has_tree() {
+        count = count_with(cursor, count)?;
+        skip(cursor);
+    }
+    Ok(count)
+}
+
+/// How many bodies there are with the tree that comes next, if it is one.
+fn count_with(cursor: &Cursor, count: u32) -> Result<u32, ScriptFault>
+    ensures count { IfOk result (λ more. more ≡ count + one_if (is_some (items_behind (codes "domain") (tree_ahead cursor.now)))) }
+    ensures fault { IfErr result (λ fault. fault ≡ NoMemory) }
+{
+    if !is_headed(cursor, b"domain") {
+        return Ok(count);
+    }
+    if count == u32::MAX {
+        return Err(ScriptFault::NoMemory);
+    }
+    Ok(count + 1)
+}
+
+/// Whether the tree that comes next is a list that begins with this word.
+fn is_headed(cursor: &Cursor, word: &[u8]) -> bool
+    ensures { result ≡ is_some (items_behind word.now (tree_ahead cursor.now)) }
+{
+    match cursor.form_ahead() {
+        Some(head) => is_word(head.word, word),
+        None => false,
+    }
+}
+
+/// Passes the tree that comes next.
+fn skip(cursor: &mut Cursor)
+    requires { has_tree cursor.old ≡ true }
+    ensures { IsPast cursor.old cursor.new }
+{
+    if cursor.open().is_none() {
+        cursor.pass();
+        return;
+    }
+    while cursor.has_tree() {
+        skip(cursor);
+    }
+    cursor.close();
+}
+
+/// The bodies of a script.
+#[derive(Drop)]
+pub(crate) struct Bodies {
+    /// The number of the first node of each.
+    pub(crate) numbers: Vec<u32>,
+    /// The place of the first behind main.
+    pub(crate) first_domain: Option<u32>,
+}
+
+/// The bodies, of which main comes next.
+fn read_bodies<'t, 'd>(
+    cursor: &mut Cursor<'t>,
+    draft: &mut Draft,
+    scope: &Scope<'t, 'd>,
+) -> Result<Bodies, ScriptFault>
+    requires { is_main (tree_ahead cursor.old) ≡ true }
+    ensures { (declared : declared.Declared) → scope.now ≡ body_scope declared → Bodied result declared (ahead cursor.old) draft.old draft.new }
+{
+    let mut numbers = Vec::new(draft.alloc());
+    numbers.push(draft.next())?;
+    cursor.enter();
+    statements(cursor, draft, scope)?;
+    let first_domain = first_place(cursor);
+    while cursor.has_tree() {
+        let full = numbers.len() >= MOST_BODIES;
+        numbers.push(draft.next())?;
+        domain(cursor, draft, scope, full)?;
+    }
+    Ok(Bodies {
+        numbers,
+        first_domain,
+    })
+}
+
+/// The place of the tree that comes next, if one does.
+fn first_place(cursor: &Cursor) -> Option<u32>
+    ensures { result ≡ first_place (ahead cursor.now) }
+{
+    if !cursor.has_tree() {
+        return None;
+    }
+    Some(cursor.place())
+}
+
+/// The body behind main that comes next; `full` says that as many stand before it as may be.
+fn domain<'t, 'd>(
+    cursor: &mut Cursor<'t>,
+    draft: &mut Draft,
+    scope: &Scope<'t, 'd>,
+    full: bool,
+) -> Result<(), ScriptFault>
+    requires { has_tree cursor.old ≡ true }
+    ensures past { IfOk result (λ _. IsPast cursor.old cursor.new) }
+    ensures reads { Blocked result (domain_of scope.now full (tree_ahead cursor.old)) draft.old draft.new }
+{
+    let place = cursor.place();
+    let Some(head) = cursor.enter() else {
+        return Err(ScriptFault::Shape(place));
+    };
+    if !is_word(head.word, b"domain") {
+        return Err(ScriptFault::Shape(place));
+    }
+    if full {
+        return Err(ScriptFault::Size(place));
+    }
+    statements(cursor, draft, scope)
+}
