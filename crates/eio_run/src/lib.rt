@@ -5,8 +5,10 @@
 #![tactic(auto)]
 
 #[cfg(test)]
+mod examples;
+#[cfg(test)]
 mod tests;
 mod top;
 mod words;
 
-pub use top::{STEPS, eio_run};
+pub use top::eio_run;

@@ -1,7 +1,7 @@
-//! What no clause says: that worked scripts have these texts and statuses, and that memory is there for them.
+//! What no clause says: that worked scripts, checks and prints have these texts and statuses, and that memory is there for them.
 ghost use Rattle.std.specs.Prelude.{◌≤◌};
 
-use crate::eio_run;
+use crate::{eio_run, examples};
 use std::alloc::{AllocError, Global};
 use std::test::Fail;
 use trace_out::{MemSink, MemSource, OpenGate, Status};
@@ -53,6 +53,7 @@ fn worked_scripts(rt: HostRuntime) -> Result<(), Fail> {
             "+in\n+out\n",
             Status::Ok,
         ),
+        (examples::FIRST, examples::FIRST_TRACE, Status::Ok),
         ("(eio 1 (main (check)))", "!Refused\n", Status::Refused),
         ("( eio 1 (main))", "!Refused\n", Status::Refused),
         ("(eio 1 (main (fork s)))", "!Refused\n", Status::Refused),
@@ -102,8 +103,150 @@ fn failing_devices(rt: HostRuntime) -> Result<(), Fail> {
 }
 
 #[test]
+fn checks_and_prints(rt: HostRuntime) -> Result<(), Fail> {
+    let gaps = "( eio 1;c\n (main(trace \"a\\tb\" -5 )))";
+    // The command and the input; what is written.
+    let rows = [
+        ("check", gaps, "ok\n"),
+        ("print", gaps, "(eio 1 (main (trace \"a\\tb\" -5)))\n"),
+        ("check", "(eio 1 (main (check)))", "ok\n"),
+        ("print", examples::FIRST, examples::FIRST),
+        ("check", "(eio 1 (main) (domain))", "ok\n"),
+    ];
+    for (line, input, text) in rows {
+        let words = words_of(rt.alloc(), line)?;
+        let mut source = source_of(rt.alloc(), input, 7, 0)?;
+        let mut sink = MemSink::new(rt.alloc(), ROOM, 7, Vec::new(rt.alloc()))?;
+        let found = eio_run(&rt, rt.alloc(), &words, &mut source, &mut sink, &OpenGate);
+        assert_eq!(rt; found, Status::Ok, "{line} {input}");
+        assert_eq!(rt; sink.held(), text.as_bytes(), "{line} {input}");
+        assert_eq!(rt; source.left.len(), 0, "{line} {input}");
+    }
+    Ok(())
+}
+
+#[test]
+fn refusals_of_check_and_print(rt: HostRuntime) -> Result<(), Fail> {
+    // The input, and the line that both commands write.
+    let rows = [
+        ("(eio 1 (main (frace \"x\")))", "!Refused Shape at 13\n"),
+        ("(eio 1 (main (take s)))", "!Refused Name at 19\n"),
+        ("(eio 1 (main (trace \"ab", "!Refused Unclosed at 20\n"),
+        ("", "!Refused Unclosed at 0\n"),
+        ("(eio 1 (main)) x", "!Refused Stray at 15\n"),
+        ("(eio 2 (main))", "!Refused Shape at 5\n"),
+        ("(eio 01 (main))", "!Refused Number at 5\n"),
+        ("(Eio 1 (main))", "!Refused Byte at 1\n"),
+        (
+            "(eio 1 (stream s 1) (mutex s) (main))",
+            "!Refused Twice at 27\n",
+        ),
+        ("(eio 1 (stream s 1025) (main))", "!Refused Size at 17\n"),
+    ];
+    for (input, text) in rows {
+        for line in ["check", "print"] {
+            let words = words_of(rt.alloc(), line)?;
+            let mut source = source_of(rt.alloc(), input, 7, 0)?;
+            let mut sink = MemSink::new(rt.alloc(), ROOM, 7, Vec::new(rt.alloc()))?;
+            let found = eio_run(&rt, rt.alloc(), &words, &mut source, &mut sink, &OpenGate);
+            assert_eq!(rt; found, Status::Refused, "{line} {input}");
+            assert_eq!(rt; sink.held(), text.as_bytes(), "{line} {input}");
+            assert_eq!(rt; source.left.len(), 0, "{line} {input}");
+        }
+    }
+    Ok(())
+}
+
+#[test]
+fn examples_are_scripts(rt: HostRuntime) -> Result<(), Fail> {
+    let words = words_of(rt.alloc(), "check")?;
+    for script in [
+        examples::CANCELLATION,
+        examples::DEADLOCK,
+        examples::DIRECTORY,
+        examples::EXCEPTIONS,
+        examples::FIRST,
+        examples::FLOWS,
+        examples::FORK_AND_SWITCH,
+        examples::GROUPS,
+        examples::HELLO,
+        examples::JOB_RUNNER,
+        examples::MUTEX,
+        examples::PROMISES,
+        examples::RELEASE_ORDER,
+        examples::RESOURCE_POOL,
+        examples::STREAM_SERVER,
+        examples::TAKE_WITH_TIMEOUT,
+    ] {
+        let mut source = source_of(rt.alloc(), script, 4096, 0)?;
+        let mut sink = MemSink::new(rt.alloc(), ROOM, 7, Vec::new(rt.alloc()))?;
+        let found = eio_run(&rt, rt.alloc(), &words, &mut source, &mut sink, &OpenGate);
+        assert_eq!(rt; found, Status::Ok, "{script}");
+        assert_eq!(rt; sink.held(), b"ok\n".as_slice(), "{script}");
+    }
+    Ok(())
+}
+
+#[test]
+fn failing_devices_of_check_and_print(rt: HostRuntime) -> Result<(), Fail> {
+    // The call of the source that fails, the most bytes of a write, the call of the sink that fails; what is held, and the status.
+    let rows = [
+        (0, 8, 2, "!Refused", Status::WriteFault),
+        (0, 8, 1, "", Status::WriteFault),
+        (0, 0, 0, "", Status::WriteFault),
+        (0, 8, 4, "!Refused Stray at 1\n", Status::Refused),
+        (1, 8, 0, "", Status::ReadFault),
+        (2, 8, 0, "", Status::ReadFault),
+        (2, 8, 1, "", Status::ReadFault),
+    ];
+    for line in ["check", "print"] {
+        let words = words_of(rt.alloc(), line)?;
+        for (source_fails, most, sink_fails, held, status) in rows {
+            let mut source = source_of(rt.alloc(), "a)", 1, source_fails)?;
+            let failing = [sink_fails].to_vec(rt.alloc())?;
+            let mut sink = MemSink::new(rt.alloc(), ROOM, most, failing)?;
+            let found = eio_run(&rt, rt.alloc(), &words, &mut source, &mut sink, &OpenGate);
+            assert_eq!(rt;
+                found,
+                status,
+                "{line} {source_fails}, {most}, {sink_fails}"
+            );
+            assert_eq!(rt;
+                sink.held(),
+                held.as_bytes(),
+                "{line} {source_fails}, {most}, {sink_fails}"
+            );
+        }
+    }
+    Ok(())
+}
+
+#[test]
 fn words_without_a_meaning(rt: HostRuntime) -> Result<(), Fail> {
-    for line in ["", "mack", "mock mock", "mock --steps 0", "load"] {
+    for line in [
+        "",
+        "mack",
+        "mock mock",
+        "mock --steps 0",
+        "mock --steps 01",
+        "mock --steps 5",
+        "mock --steps=5",
+        "mock --",
+        "mock -- x",
+        "mock --help",
+        "--",
+        "-h",
+        "--help",
+        "check check",
+        "check --",
+        "print x",
+        "print -h",
+        "Check",
+        "domains",
+        "load",
+        "load 1",
+        "load 1001",
+    ] {
         let words = words_of(rt.alloc(), line)?;
         let mut source = source_of(rt.alloc(), "(eio 1 (main))", 16, 1)?;
         let mut sink = MemSink::new(rt.alloc(), ROOM, 16, Vec::new(rt.alloc()))?;
@@ -116,16 +259,25 @@ fn words_without_a_meaning(rt: HostRuntime) -> Result<(), Fail> {
 
 #[test]
 fn longer_inputs_than_are_accepted(rt: HostRuntime) -> Result<(), Fail> {
-    // How many blanks there are, and how many of them are left.
-    let words = words_of(rt.alloc(), "mock")?;
-    for (blanks, left) in [(262_144, 0), (262_145, 0), (262_150, 5)] {
+    // The command, how many blanks there are, how many of them are left, and what is written.
+    let rows = [
+        ("mock", 262_144, 0, "!Refused\n"),
+        ("mock", 262_145, 0, "!Refused\n"),
+        ("mock", 262_150, 5, "!Refused\n"),
+        ("check", 262_144, 0, "!Refused Unclosed at 262144\n"),
+        ("check", 262_145, 0, "!Refused Size at 262144\n"),
+        ("check", 262_150, 5, "!Refused Size at 262144\n"),
+        ("print", 262_145, 0, "!Refused Size at 262144\n"),
+    ];
+    for (line, blanks, left, text) in rows {
+        let words = words_of(rt.alloc(), line)?;
         let mut source = source_of(rt.alloc(), "", 100_000, 0)?;
         source.left = vec![in rt.alloc(); b' '; blanks]?;
         let mut sink = MemSink::new(rt.alloc(), ROOM, ROOM, Vec::new(rt.alloc()))?;
         let found = eio_run(&rt, rt.alloc(), &words, &mut source, &mut sink, &OpenGate);
-        assert_eq!(rt; found, Status::Refused);
-        assert_eq!(rt; sink.held(), b"!Refused\n".as_slice());
-        assert_eq!(rt; source.left.len(), left);
+        assert_eq!(rt; found, Status::Refused, "{line} {blanks}");
+        assert_eq!(rt; sink.held(), text.as_bytes(), "{line} {blanks}");
+        assert_eq!(rt; source.left.len(), left, "{line} {blanks}");
     }
     Ok(())
 }

@@ -1,25 +1,29 @@
 //! The top call. It owns no rule of its own: words are read here, and a command's own crate does the rest.
 ghost use Rattle.std.specs.Prelude.{◌≡◌, ◌≤◌, ◌↔◌, map, IfSome, None};
 ghost use Rattle.std.specs.String.{string_bytes};
-ghost use Rattle.first_model.specs.Answer.{meaning};
-ghost use Rattle.first_model.specs.Outcome.{ReadsFor, WritesFor, HasItsCause, CanCome};
+ghost use Rattle.trace_out.specs.Outcome.{ReadsFor, HasItsCause, CanCome};
+ghost use Rattle.script_model.specs.Today.{built_today};
+ghost use Rattle.script_model.specs.Words.{meaning};
+ghost use Rattle.eio_run.specs.Answers.{due_to, Writes};
 
 use crate::words::command_of;
-use first_model::Command;
 use mock_backend::mock_run;
+use script_input::{Inspection, inspect_run};
+use script_model::Command;
 use std::alloc::Global;
 use std::sync::Wait;
 use std::thread::Threads;
 use trace_out::{Gate, Sink, Source, Status};
 
-/// The most moves that a run makes.
-pub const STEPS: u32 = 1_000_000;
-
 /// Does what `words`, those behind the program's name, ask for: reads an input from `source`, writes what is answered to
 /// `sink`, and returns how it ended.
 ///
-/// The one command today is `mock`, which runs a script on one mocked domain. Words without a meaning are answered by
-/// `Usage` before anything is read. At most 262,145 bytes are read. The gate is never asked by `mock`.
+/// The commands today are `mock`, which runs a script on one mocked domain; `check`, which says whether the input is a script of the
+/// notation; and `print`, which writes such a script in its canonical spelling. Words without a meaning are answered by `Usage`
+/// before anything is read. At most 262,145 bytes are read. The gate is never asked by these commands.
+///
+/// What `print` writes spells a tree that stands for the same script, offsets aside; where it has at most 262,144 bytes it is read again
+/// as that script and printed as the same bytes. That is a law over the definitions (`print_reads_again` of `script_laws`).
 pub fn eio_run<R: Threads + Wait + Sync, S: Source, K: Sink, G: Gate>(
     _rt: &R,
     alloc: Global,
@@ -29,12 +33,12 @@ pub fn eio_run<R: Threads + Wait + Sync, S: Source, K: Sink, G: Gate>(
     _gate: &G,
 ) -> Status
     // Usage exactly where the words have no meaning, and then nothing is read or written.
-    ensures usage { (result ≡ Status.Usage) ↔ (meaning (map string_bytes words.now) ≡ None) }
+    ensures usage { (result ≡ Status.Usage) ↔ (meaning built_today (map string_bytes words.now) ≡ None) }
     ensures unread { result ≡ Status.Usage → (source.new ≡ source.old) × (sink.new ≡ sink.old) }
 
     // What is read and written at each answer, where source and sink tell their bytes.
     ensures read { ReadsFor result (S.left source.old) (S.left source.new) }
-    ensures text { IfSome (S.left source.old) (λ bytes. WritesFor result STEPS bytes (K.held sink.old) (K.held sink.new)) }
+    ensures text { IfSome (S.left source.old) (λ bytes. Writes result (due_to built_today (map string_bytes words.now) bytes) (K.held sink.old) (K.held sink.new)) }
     ensures unwritten { result ≡ Status.ReadFault → sink.new ≡ sink.old }
 
     // A fault has its cause in the device's count, which never falls.
@@ -42,11 +46,14 @@ pub fn eio_run<R: Threads + Wait + Sync, S: Source, K: Sink, G: Gate>(
     ensures source_later { S.faults source.old ≤ S.faults source.new }
     ensures sink_later { K.faults sink.old ≤ K.faults sink.new }
 
-    // No script of the forms that are built waits for ever, raises, passes a limit or runs out of steps.
+    // No script of the forms that are run waits for ever, raises, passes a limit or runs out of steps.
     ensures over { CanCome result }
 {
     match command_of(words) {
         None => Status::Usage,
-        Some(Command::Mock) => mock_run(alloc, source, sink, STEPS),
+        Some(Command::Mock(steps)) => mock_run(alloc, source, sink, steps),
+        Some(Command::Check) => inspect_run(alloc, Inspection::Check, source, sink),
+        Some(Command::Print) => inspect_run(alloc, Inspection::Print, source, sink),
+        Some(Command::Domains(_) | Command::Load(_)) => unreachable!(),
     }
 }

@@ -1,0 +1,12 @@
+use Rattle.std.proofs.Common.{Some, ap, ◌∙◌}
+use Rattle.eio_run.proofs.Due.{check_writes, mock_writes, print_writes}
+use Rattle.eio_run.proofs.top.eio_run.Goals as goal
+
+pub returns-in-Some-Mock-clause-text : goal.returns-in-Some-Mock-clause-text
+returns-in-Some-Mock-clause-text g c = mock_writes _ _ _ c.in-Some-Mock.steps _ _ _ _ c.command_of.ensures.means (c.in-Some-Mock.is ∙ ap Some c.in-Some-Mock.field-0-is) c.mock_run.ensures.text
+
+pub returns-in-Some-Check-clause-text : goal.returns-in-Some-Check-clause-text
+returns-in-Some-Check-clause-text g c = check_writes _ _ _ _ _ _ _ c.command_of.ensures.means (c.in-Some-Check.is ∙ ap Some c.in-Some-Check.field-0-is) c.inspect_run.ensures.text
+
+pub returns-in-Some-Print-clause-text : goal.returns-in-Some-Print-clause-text
+returns-in-Some-Print-clause-text g c = print_writes _ _ _ _ _ _ _ c.command_of.ensures.means (c.in-Some-Print.is ∙ ap Some c.in-Some-Print.field-0-is) c.inspect_run-in-Some-Print.ensures.text

@@ -1,0 +1,25 @@
+-- What words ask for, where it is built.
+use Rattle.std.specs.Prelude.{◌≡◌, Bool, true, false, Option, Some, None}
+use Rattle.script_model.specs.declared.Command.{Command}
+use Rattle.script_model.specs.declared.Command.TheVariants as command
+use Rattle.script_model.specs.Features.{is_built}
+use Rattle.script_model.specs.Limits.{most_steps}
+use Rattle.script_model.specs.Today.{built_today}
+use Rattle.script_model.specs.Words.{Asked}
+
+abbrev pub only_if : Bool → Command → Option Command
+only_if true command = Some command
+only_if false command = None
+
+abbrev pub if_built : Option Asked → Option Command
+if_built None = None
+if_built (Some it) = only_if (is_built built_today it.feature) it.command
+
+-- the commands that are built: `mock` with all its moves, `check` and `print`
+abbrev pub IsOfToday : Option Command → Type 0
+IsOfToday None = Unit {0}
+IsOfToday (Some (command.Mock steps)) = steps ≡ most_steps
+IsOfToday (Some (command.Domains lines)) = ⊥
+IsOfToday (Some command.Check) = Unit {0}
+IsOfToday (Some command.Print) = Unit {0}
+IsOfToday (Some (command.Load forks)) = ⊥

@@ -1,0 +1,2 @@
+pub mod Inspections
+pub mod Refusals
