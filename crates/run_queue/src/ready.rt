@@ -65,4 +65,11 @@ impl Ready {
     {
         self.fibers.pop_front()
     }
+
+    /// Whether no fiber stands in it.
+    pub fn is_empty(&self) -> bool
+        ensures { IsTrue result ↔ (self.now.fibers ≡ []) }
+    {
+        self.fibers.is_empty()
+    }
 }

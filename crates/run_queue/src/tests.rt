@@ -14,7 +14,9 @@ fn fibers_move_in_order(rt: HostRuntime) -> Result<(), Fail> {
     ready.push_head(4)?;
     assert!(rt; ready.push_back(9).is_err());
     assert_eq!(rt; ready.pop(), Some(4));
+    assert!(rt; !ready.is_empty());
     assert_eq!(rt; ready.pop(), Some(7));
+    assert!(rt; ready.is_empty());
     assert_eq!(rt; ready.pop(), None);
     Ok(())
 }
