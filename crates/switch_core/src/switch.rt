@@ -91,6 +91,13 @@ impl Switch {
         self.finished
     }
 
+    /// Whether it takes no fibers: it is finished or runs its handlers.
+    pub(crate) fn refuses_fibers(&self) -> bool
+        ensures { result ≡ refuses_fibers self.now }
+    {
+        self.finished || self.running
+    }
+
     /// Attaches a fiber, unless the switch is finished or runs its handlers.
     pub(crate) fn attach(&mut self, fiber: u32, daemon: bool) -> Result<bool, NoMemory>
         requires { ¬ IsAttached fiber self.old }
@@ -98,7 +105,7 @@ impl Switch {
         ensures refused { (result ≡ Ok false) ↔ IsTrue (refuses_fibers self.old) }
         ensures err { OnErr result (self.new ≡ self.old) }
     {
-        if self.finished || self.running {
+        if self.refuses_fibers() {
             return Ok(false);
         }
         if daemon {

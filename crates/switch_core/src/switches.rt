@@ -52,6 +52,20 @@ impl Switches {
         Ok(number as u32)
     }
 
+    /// How many were opened.
+    pub fn len(&self) -> usize
+        ensures { result ≡ length self.now }
+    {
+        self.switches.len()
+    }
+
+    /// Whether none was opened.
+    pub fn is_empty(&self) -> bool
+        ensures { IsTrue result ↔ (self.now ≡ []) }
+    {
+        self.switches.is_empty()
+    }
+
     /// The context of a switch.
     pub fn context(&self, sw: u32) -> u32
         requires { sw < length self.now }
@@ -66,6 +80,14 @@ impl Switches {
         ensures { result ≡ (switch_at self.now sw).finished }
     {
         self.switches[sw as usize].is_finished()
+    }
+
+    /// Whether a switch takes no fibers: it is finished or runs its handlers.
+    pub fn refuses_fibers(&self, sw: u32) -> bool
+        requires { sw < length self.now }
+        ensures { result ≡ refuses_fibers (switch_at self.now sw) }
+    {
+        self.switches[sw as usize].refuses_fibers()
     }
 
     /// Attaches a fiber, as a daemon or not, and answers whether it did: a switch that is finished or runs its handlers

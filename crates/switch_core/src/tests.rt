@@ -64,8 +64,11 @@ fn errors_are_raised_and_then_it_is_finished(rt: HostRuntime) -> Result<(), Fail
     let mut switches = Switches::new(rt.alloc());
     let sw = switches.open(0)?;
     assert!(rt; switches.fail(sw, failure(1)).is_ok());
+    assert!(rt; !switches.refuses_fibers(sw));
     assert!(rt; matches!(switches.close_step(sw, 3), CloseStep::Raise(Raised::One(_))));
     assert!(rt; switches.is_finished(sw));
+    assert!(rt; switches.refuses_fibers(sw));
+    assert_eq!(rt; switches.len(), 1);
     assert!(rt; switches.fail(sw, failure(2)).is_err());
     let refused = switches.on_release(sw, handler(rt.alloc(), 5)?);
     let Err(ReleaseFault::Finished(back)) = refused else {
