@@ -135,6 +135,7 @@ answers_alike s t alike same live = record {
   full = full_at s.made t.made alike.ends;
   waiting = same;
   live = λ c. live_at s.made t.made c alike.ends;
+  stand = alike.stand;
   off = off_alike s.made t.made alike;
   reached = up_alike s.made t.made alike;
   members = λ c. ap (λ ws. reached t.made ws c) same ∙ reached_alike s.made t.made alike s.waiting c live;

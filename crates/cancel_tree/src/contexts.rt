@@ -89,6 +89,14 @@ impl Contexts {
         self.tree.off(c)
     }
 
+    /// The parent of the context; `None` for one without a parent.
+    pub fn parent(&self, c: u32) -> Option<u32>
+        requires { contexts.is_live self.now.made c ≡ true }
+        ensures { result ≡ (contexts.context_at self.now.made c).parent }
+    {
+        self.tree.parent(c)
+    }
+
     /// Cancels the context for this reason, if it is live and isn't off; whether it did.
     pub fn cancel(&mut self, c: u32, why: Plain) -> bool
         ensures took { result ≡ contexts.takes_effect self.old.made c }

@@ -30,6 +30,8 @@ fn cancels_below_but_not_the_protected(rt: HostRuntime) -> Result<(), Fail> {
     assert_eq!(rt; contexts.is_off(below), Some(Plain::EndOfFile));
     assert!(rt; contexts.is_live(shut));
     assert_eq!(rt; contexts.is_off(shut), None);
+    assert!(rt; contexts.is_live(shut));
+    assert_eq!(rt; contexts.parent(shut), Some(top));
     contexts.unwait(7);
     Ok(())
 }

@@ -64,6 +64,19 @@ impl Tree {
         place_of(&self.places, c).is_some()
     }
 
+    /// The parent of the context, if it has one. Of one that isn't live none is known.
+    pub(crate) fn parent(&self, c: u32) -> Option<u32>
+        ensures { result ≡ (contexts.context_at self.now c).parent }
+    {
+        let Some(place) = place_of(&self.places, c) else {
+            return None;
+        };
+        match self.kept[place.key].parent {
+            Some(above) => Some(above.number),
+            None => None,
+        }
+    }
+
     /// The reason by which the context is off: the first on the way up.
     pub(crate) fn off(&self, c: u32) -> Option<Plain>
         ensures { result ≡ contexts.off self.now c }
