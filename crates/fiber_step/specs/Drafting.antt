@@ -1,0 +1,31 @@
+-- A fiber while it settles: the draft is apart from the fiber, which is as it was until the draft is kept.
+use Rattle.std.specs.Prelude.{◌≡◌, ◌≤◌, [], ◌∷◌, ◌++◌, take, length}
+use Rattle.fiber_step.specs.Kept.{Kept}
+use Rattle.fiber_step.specs.Turning.{with_mark}
+use Rattle.fiber_step.specs.declared.draft.Changes.{Changes}
+use Rattle.fiber_step.specs.declared.draft.Taken.{Taken}
+use Rattle.fiber_step.specs.declared.draft.Taken.TheVariants as taken
+use Rattle.fiber_step.specs.declared.item.Item.TheVariants as item
+
+-- a fiber that was so, and where the draft stands
+pub record Drafted : Type 0 where
+  pub fiber : Kept
+  pub now : Kept
+
+-- a fiber with changes
+abbrev pub changed : Kept → Changes → Kept
+changed fiber changes = record {
+  items = take changes.left fiber.items ++ changes.items.items;
+  variables = take changes.kept fiber.variables ++ changes.values.items;
+}
+
+-- no more is left than there was
+pub record IsWithin (fiber : Kept) (changes : Changes) : Type 0 where
+  pub left : changes.left ≤ length fiber.items
+  pub kept : changes.kept ≤ length fiber.variables
+
+-- the next item is taken
+abbrev pub Takes : Kept → Kept → Taken → Type 0
+Takes old new taken.Nothing = (old.items ≡ []) × (new ≡ old)
+Takes old new (taken.Mark it) = old ≡ with_mark it new
+Takes old new taken.Restored = old.items ≡ new.items ++ item.Restore new.variables ∷ []

@@ -1,0 +1,17 @@
+pub mod Calling
+pub mod Drafting
+pub mod Entering
+pub mod Evaluating
+pub mod Going
+pub mod Having
+pub mod Kept
+pub mod Placing
+pub mod Scoping
+pub mod Settling
+pub mod Standing
+pub mod Stating
+pub mod Stepping
+pub mod Throwing
+pub mod Turning
+pub mod Unwinding
+pub mod Weighing

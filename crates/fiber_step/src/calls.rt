@@ -1,0 +1,146 @@
+//! Statements that call with no operand to be evaluated.
+
+ghost use Rattle.std.specs.Prelude.{◌≡◌, ◌≤◌, length, map, List};
+ghost use Rattle.eio_value.specs.declared.value.Value.{Value as Item};
+ghost use Rattle.fiber_step.specs.Calling.{is_bare, has_own_block, hands_on};
+ghost use Rattle.fiber_step.specs.Having.{BeginsStatement};
+ghost use Rattle.fiber_step.specs.Stepping.{IsStepIf};
+ghost use Rattle.script_lang.specs.Flat.{nodes_of};
+ghost use Rattle.script_model.specs.Limits.{most_captured};
+ghost use Rattle.step_model.specs.Evaluation.{value_at};
+
+use crate::ask::Ask;
+use crate::step::{Step, Stepped};
+use crate::variables::Scope;
+use eio_value::Operands;
+use script_lang::{Node, Script};
+
+/// The step of a statement that calls, and has neither operands nor blocks. Other statements have none here.
+pub(crate) fn call_at_once(script: &Script, number: u32, variables: &Scope) -> Option<Stepped>
+    requires { BeginsStatement (nodes_of script.now) number }
+    ensures { IsStepIf is_bare (nodes_of script.now) (length script.now.texts) number variables.now result }
+{
+    let call = match *script.node(number) {
+        Node::Yield => Ask::Yield,
+        Node::Check => Ask::Check,
+        Node::AwaitCancel => Ask::AwaitCancel,
+        Node::Now => Ask::Now,
+        Node::Cancel { context, text } => Ask::Cancel {
+            context: variables.number(context),
+            text,
+        },
+        Node::Fail { switch, text } => Ask::Fail {
+            switch: variables.number(switch),
+            text,
+        },
+        Node::OnObject { call, object } => Ask::OnObject { call, object },
+        Node::OnReader { call, reader } => Ask::OnReader {
+            call,
+            reader: variables.number(reader),
+        },
+        Node::Copy { from, to } => Ask::Copy { from, to },
+        _ => return None,
+    };
+    Some(Stepped {
+        step: Step::Calls(call),
+        after: number + 1,
+    })
+}
+
+/// The step of a statement whose call goes into its block. Other statements have none here.
+pub(crate) fn call_with_block(script: &Script, number: u32) -> Option<Stepped>
+    requires { BeginsStatement (nodes_of script.now) number }
+    ensures { (variables : List Item) → IsStepIf has_own_block (nodes_of script.now) (length script.now.texts) number variables result }
+{
+    let (call, after) = match *script.node(number) {
+        Node::Sub { body, after } => (Ask::Sub { body }, after),
+        Node::Protect { body, after } => (Ask::Protect { body }, after),
+        Node::Switch { body, after } => (Ask::Switch { body }, after),
+        Node::BufRead {
+            flow,
+            limit,
+            body,
+            after,
+        } => (Ask::OpenReader { flow, limit, body }, after),
+        Node::BufWrite { flow, body, after } => (Ask::OpenWriter { flow, body }, after),
+        _ => return None,
+    };
+    Some(Stepped {
+        step: Step::Calls(call),
+        after,
+    })
+}
+
+/// The step of a statement whose call hands a block on. Other statements have none here.
+pub(crate) fn call_with_job(script: &Script, number: u32, variables: &Scope) -> Option<Stepped>
+    requires { BeginsStatement (nodes_of script.now) number }
+    ensures { IsStepIf hands_on (nodes_of script.now) (length script.now.texts) number variables.now result }
+{
+    let (call, after) = match script.node(number) {
+        Node::Fork {
+            forking,
+            switch,
+            body,
+            after,
+        } => {
+            let switch = variables.number(*switch);
+            (
+                Ask::Fork {
+                    forking: *forking,
+                    switch,
+                    body: *body,
+                },
+                *after,
+            )
+        }
+        Node::OnRelease {
+            switch,
+            handler,
+            after,
+        } => {
+            let switch = variables.number(*switch);
+            (
+                Ask::OnRelease {
+                    switch,
+                    handler: *handler,
+                },
+                *after,
+            )
+        }
+        Node::Submit {
+            executor,
+            weight,
+            captured,
+            job,
+            after,
+        } => {
+            let given = values_of(captured.as_slice(), variables);
+            (
+                Ask::Submit {
+                    executor: *executor,
+                    weight: *weight,
+                    given,
+                    job: *job,
+                },
+                *after,
+            )
+        }
+        _ => return None,
+    };
+    Some(Stepped {
+        step: Step::Calls(call),
+        after,
+    })
+}
+
+/// The values of some slots.
+fn values_of(slots: &[u32], variables: &Scope) -> Operands
+    requires { length slots.now ≤ most_captured }
+    ensures { result ≡ map (value_at variables.now) slots.now }
+{
+    let mut values = Operands::none();
+    for slot in slots {
+        values = values.with(variables.value(*slot));
+    }
+    values
+}

@@ -1,0 +1,148 @@
+//! How a fiber goes into the block of a call that was answered.
+
+ghost use Rattle.std.specs.Prelude.{◌≡◌, ◌<◌, length, List, OnOk, OnErr};
+ghost use Rattle.fiber_step.specs.Entering.{HasBranches};
+ghost use Rattle.fiber_step.specs.Having.{HasStatements};
+ghost use Rattle.fiber_step.specs.Placing.{ArePlaced};
+ghost use Rattle.fiber_step.specs.Stepping.{HasBranchBodies, HasBodiesOf};
+ghost use Rattle.fiber_step.specs.Kept.{position_of};
+ghost use Rattle.fiber_step.specs.Standing.{ask_of, branches_at};
+ghost use Rattle.script_lang.specs.Flat.{nodes_of};
+ghost use Rattle.script_lang.specs.Standing.{block_at};
+ghost use Rattle.script_lang.specs.declared.node.Node.{Node as Begun};
+ghost use Rattle.step_model.specs.Replies as model;
+ghost use Rattle.step_model.specs.Silent.{blocks_of};
+
+use crate::ask::Ask;
+use crate::fiber::Fiber;
+use crate::mark::Mark;
+use crate::variables::Variables;
+use eio_value::{NoMemory, Value};
+use script_lang::{Node, Script};
+
+/// The block that the caller runs of the branches of a form.
+fn own_branch(script: &Script, form: u32) -> u32
+    requires some { HasBranches (nodes_of script.now) form }
+    requires begin { HasBranchBodies (nodes_of script.now) form }
+    ensures block { block_at (nodes_of script.now) result ≡ model.own_branch (blocks_of (branches_at (nodes_of script.now) form)) }
+    ensures begins { HasStatements (nodes_of script.now) result }
+{
+    match script.node(form) {
+        Node::Branches { blocks, .. } => match blocks.as_slice().last() {
+            Some(own) => *own,
+            None => unreachable!(),
+        },
+        _ => unreachable!(),
+    }
+}
+
+impl Fiber {
+    /// Goes before the block of a call that was answered with this number: of the new context, switch, group, reader, writer or
+    /// directory. Other calls have no block to go into.
+    ///
+    /// # Errors
+    /// [`NoMemory`] where memory runs out; then the fiber is as it was.
+    pub fn enter(&mut self, script: &Script, ask: &Ask, number: u32) -> Result<(), NoMemory>
+        requires bodies { HasBodiesOf (nodes_of script.now) ask.now }
+        requires items { ArePlaced (nodes_of script.now) self.old.items }
+        ensures ok { OnOk result (position_of (nodes_of script.now) self.new ≡ model.entered (ask_of (nodes_of script.now) ask.now) number (position_of (nodes_of script.now) self.old).work self.old.variables) }
+        ensures items { OnOk result (ArePlaced (nodes_of script.now) self.new.items) }
+        ensures err { OnErr result (self.new ≡ self.old) }
+    {
+        let keep = self.variables().len();
+        match *ask {
+            Ask::Sub { body } => self.go_into_with(
+                Value::Ctx(number),
+                Mark::Leave {
+                    context: number,
+                    late: false,
+                    keep,
+                },
+                body,
+            ),
+            Ask::Protect { body } => self.go_into(
+                Mark::Leave {
+                    context: number,
+                    late: false,
+                    keep,
+                },
+                body,
+            ),
+            Ask::Switch { body } => self.go_into_with(
+                Value::Switch(number),
+                Mark::Close {
+                    switch: number,
+                    keep,
+                },
+                body,
+            ),
+            Ask::OnRelease { handler, .. } => self.go_into(
+                Mark::Leave {
+                    context: number,
+                    late: true,
+                    keep,
+                },
+                handler,
+            ),
+            Ask::Branches { form, .. } => self.go_into(
+                Mark::Join {
+                    group: number,
+                    keep,
+                },
+                own_branch(script, form),
+            ),
+            Ask::OpenReader { body, .. } => self.go_into_with(
+                Value::Int(number as i64),
+                Mark::ShutReader {
+                    reader: number,
+                    keep,
+                },
+                body,
+            ),
+            Ask::OpenWriter { body, .. } => self.go_into_with(
+                Value::Int(number as i64),
+                Mark::ShutWriter {
+                    writer: number,
+                    keep,
+                },
+                body,
+            ),
+            Ask::OpenDirectory { body, .. } => {
+                self.go_into_with(Value::Int(number as i64), Mark::Cut { keep }, body)
+            }
+            _ => Ok(()),
+        }
+    }
+
+    /// Goes before a handler of the switch that this call closes, in a context of this number, with the variables that the handler
+    /// was registered with. Another call leaves the fiber as it is.
+    ///
+    /// # Errors
+    /// [`NoMemory`] where memory runs out; then the fiber is as it was.
+    pub fn handle(
+        &mut self,
+        ask: &Ask,
+        context: u32,
+        handler: u32,
+        registered: Variables,
+    ) -> Result<(), NoMemory>
+        ensures ok { OnOk result ((nodes : List Begun) → position_of nodes self.new ≡ model.handled (ask_of nodes ask.now) context (block_at nodes handler) registered (position_of nodes self.old).work self.old.variables) }
+        ensures items { OnOk result ((nodes : List Begun) → ArePlaced nodes self.old.items → HasStatements nodes handler → ArePlaced nodes self.new.items) }
+        ensures err { OnErr result (self.new ≡ self.old) }
+    {
+        let Ask::Close { switch, kept, .. } = *ask else {
+            return Ok(());
+        };
+        let keep = registered.len();
+        self.go_into_handler(
+            Mark::Closing { switch, kept },
+            Mark::Leave {
+                context,
+                late: false,
+                keep,
+            },
+            handler,
+            registered,
+        )
+    }
+}

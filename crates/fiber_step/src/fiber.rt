@@ -1,0 +1,187 @@
+//! A fiber between two calls: what it still has to do, and its variables.
+//!
+//! Work goes by the numbers of the script's nodes, the next item last. Where a fiber stands is said under the nodes of its
+//! script (`position_of`).
+
+ghost use Rattle.std.specs.Prelude.{◌≡◌, ◌≤◌, ◌<◌, ◌+◌, List, [], ◌∷◌, ◌++◌, vec_len, vec_capacity};
+ghost use Rattle.fiber_step.specs.Having.{HasStatements};
+ghost use Rattle.fiber_step.specs.Kept.{position_of};
+ghost use Rattle.fiber_step.specs.Placing.{ArePlaced};
+ghost use Rattle.script_lang.specs.Standing.{block_at};
+ghost use Rattle.script_lang.specs.declared.node.Node.{Node};
+ghost use Rattle.step_model.specs.Replies.{begun, begun_promising};
+
+use crate::draft::Changes;
+use crate::item::Item;
+use crate::mark::Mark;
+use crate::variables::Variables;
+use eio_value::{NoMemory, Value};
+use std::alloc::Global;
+use std::marker::Model;
+use std::mem::replace;
+
+/// A fiber, by the numbers of the nodes of its script.
+#[derive(Drop)]
+pub struct Fiber {
+    /// The next item last.
+    work: Vec<Item>,
+    variables: Variables,
+}
+
+impl Model for Fiber {
+    ghost use Rattle.fiber_step.specs.Kept.{Kept};
+
+    ghost Value = { Kept };
+
+    ghost view = { λ inside. record { items = inside.work.items; variables = inside.variables } };
+}
+
+impl Fiber {
+    ghost use Rattle.std.specs.Prelude.{IfOk, OnOk, OnErr};
+    ghost use Rattle.fiber_step.specs.Drafting.{changed};
+    ghost use Rattle.fiber_step.specs.Turning.{gone_into, handling, naming};
+
+    /// A fiber that has a block to run.
+    ///
+    /// # Errors
+    /// [`NoMemory`] where memory runs out.
+    pub fn new(alloc: Global, body: u32, variables: Variables) -> Result<Fiber, NoMemory>
+        ensures position { IfOk result (λ it. (nodes : List Node) → position_of nodes it ≡ begun (block_at nodes body) variables) }
+        ensures items { IfOk result (λ it. (nodes : List Node) → HasStatements nodes body → ArePlaced nodes it.items) }
+    {
+        let mut work = Vec::new(alloc);
+        work.push(Item::Mark(Mark::Run(body)))?;
+        Ok(Fiber { work, variables })
+    }
+
+    /// The same where its end resolves a promise first.
+    ///
+    /// # Errors
+    /// [`NoMemory`] where memory runs out.
+    pub fn promising(
+        alloc: Global,
+        promise: u32,
+        body: u32,
+        variables: Variables,
+    ) -> Result<Fiber, NoMemory>
+        ensures position { IfOk result (λ it. (nodes : List Node) → position_of nodes it ≡ begun_promising promise (block_at nodes body) variables) }
+        ensures items { IfOk result (λ it. (nodes : List Node) → HasStatements nodes body → ArePlaced nodes it.items) }
+    {
+        let mut work = Vec::new(alloc);
+        work.push(Item::Mark(Mark::Resolve { promise }))?;
+        work.push(Item::Mark(Mark::Run(body)))?;
+        Ok(Fiber { work, variables })
+    }
+
+    /// Its variables.
+    pub fn variables(&self) -> &Variables
+        ensures { result.now ≡ self.now.variables }
+    {
+        &self.variables
+    }
+
+    /// Its work, the next item last.
+    pub(crate) fn work(&self) -> &[Item]
+        ensures { result.now ≡ self.now.items }
+    {
+        self.work.as_slice()
+    }
+
+    /// What its parts are allocated by.
+    pub(crate) fn alloc(&self) -> Global {
+        *self.work.allocator()
+    }
+
+    /// Goes before a block, with a mark at its end.
+    ///
+    /// # Errors
+    /// [`NoMemory`] where memory runs out; then the fiber is as it was.
+    pub(crate) fn go_into(&mut self, end: Mark, body: u32) -> Result<(), NoMemory>
+        ensures ok { OnOk result (self.new ≡ gone_into end body self.old) }
+        ensures err { OnErr result (self.new ≡ self.old) }
+    {
+        self.work.push(Item::Mark(end))?;
+        if self.work.push(Item::Mark(Mark::Run(body))).is_err() {
+            self.work.pop();
+            return Err(NoMemory);
+        }
+        Ok(())
+    }
+
+    /// The same with a name in the next slot.
+    ///
+    /// # Errors
+    /// [`NoMemory`] where memory runs out; then the fiber is as it was.
+    pub(crate) fn go_into_with(
+        &mut self,
+        named: Value,
+        end: Mark,
+        body: u32,
+    ) -> Result<(), NoMemory>
+        ensures ok { OnOk result (self.new ≡ gone_into end body (naming named self.old)) }
+        ensures err { OnErr result (self.new ≡ self.old) }
+    {
+        let before = self.variables.len();
+        self.variables.push(named)?;
+        if self.go_into(end, body).is_err() {
+            self.variables.cut(before);
+            return Err(NoMemory);
+        }
+        Ok(())
+    }
+
+    /// Takes what a draft of it has come to.
+    ///
+    /// # Errors
+    /// [`NoMemory`] where memory runs out; then the fiber is as it was.
+    pub(crate) fn keep(&mut self, changes: Changes) -> Result<(), NoMemory>
+        ensures ok { OnOk result (self.new ≡ changed self.old changes) }
+        ensures err { OnErr result (self.new ≡ self.old) }
+    {
+        let mut changes = changes;
+        self.work.reserve(changes.items.len())?;
+        self.variables.change(changes.kept, &mut changes.values)?;
+        self.work.truncate(changes.left);
+        match self.work.append(&mut changes.items) {
+            Ok(()) => Ok(()),
+            Err(_) => unreachable!(),
+        }
+    }
+
+    /// Goes before a handler of a switch that closes, which has the variables that it was registered with; the fiber's own are
+    /// back behind it, and the switch closes on with the value of its body.
+    ///
+    /// # Errors
+    /// [`NoMemory`] where memory runs out; then the fiber is as it was.
+    pub(crate) fn go_into_handler(
+        &mut self,
+        closing: Mark,
+        end: Mark,
+        handler: u32,
+        registered: Variables,
+    ) -> Result<(), NoMemory>
+        ensures ok { OnOk result (self.new ≡ handling closing end handler registered self.old) }
+        ensures err { OnErr result (self.new ≡ self.old) }
+    {
+        self.work.reserve(4)?;
+        let own = replace(&mut self.variables, registered);
+        push_reserved(&mut self.work, Item::Mark(closing));
+        push_reserved(&mut self.work, Item::Restore(own));
+        push_reserved(&mut self.work, Item::Mark(end));
+        push_reserved(&mut self.work, Item::Mark(Mark::Run(handler)));
+        Ok(())
+    }
+}
+
+/// One more item, for which there is room.
+fn push_reserved(work: &mut Vec<Item>, item: Item)
+    requires { vec_len work.old < vec_capacity work.old }
+    ensures items { work.new.items ≡ work.old.items ++ item ∷ [] }
+    ensures len { vec_len work.new ≡ vec_len work.old + 1 }
+    ensures capacity { vec_capacity work.old ≤ vec_capacity work.new }
+{
+    match work.push(item) {
+        Ok(()) => {}
+        Err(_) => unreachable!(),
+    }
+}

@@ -1,0 +1,33 @@
+//! What a fiber does between two calls, for every form of the notation.
+#![tactic(auto)]
+
+mod ask;
+mod bodies;
+mod calls;
+mod draft;
+mod entering;
+mod evaluation;
+mod fiber;
+mod item;
+mod laws;
+mod mark;
+mod operand_calls;
+mod passing;
+mod settling;
+mod silent;
+mod statements;
+mod step;
+#[cfg(test)]
+mod tests;
+mod throw;
+mod turn;
+mod unwind;
+mod variables;
+
+pub use ask::{Ask, Place};
+pub use bodies::first_node;
+pub use fiber::Fiber;
+pub use item::Item;
+pub use laws::{blocks_keep_variables, ends_stop, marks_agree};
+pub use mark::{End, Mark};
+pub use variables::{Scope, Variables};

@@ -1,0 +1,120 @@
+//! Statements that call with operands. An operand that raises ends the statement.
+
+ghost use Rattle.std.specs.Prelude.{◌≡◌, length};
+ghost use Rattle.fiber_step.specs.Calling.{has_operands, is_of_path};
+ghost use Rattle.fiber_step.specs.Having.{BeginsStatement};
+ghost use Rattle.fiber_step.specs.Standing.{place_of};
+ghost use Rattle.fiber_step.specs.Stepping.{IsStepOrRaiseIf};
+ghost use Rattle.script_lang.specs.Calls.{directory_of};
+ghost use Rattle.script_lang.specs.Flat.{nodes_of};
+ghost use Rattle.step_model.specs.Silent.{place_in};
+
+use crate::ask::{Ask, Place};
+use crate::evaluation::{evaluate, evaluate_all, evaluate_number, evaluate_text};
+use crate::step::{Step, Stepped};
+use crate::variables::Scope;
+use eio_value::Misuse;
+use script_lang::{Directory, Node, Script};
+
+/// The step of a statement that calls with operands of any kind. Other statements have none here.
+pub(crate) fn call_with_operands(
+    script: &Script,
+    number: u32,
+    variables: &Scope,
+) -> Result<Option<Stepped>, Misuse>
+    requires { BeginsStatement (nodes_of script.now) number }
+    ensures { IsStepOrRaiseIf has_operands (nodes_of script.now) (length script.now.texts) number variables.now result }
+{
+    let (call, after) = match *script.node(number) {
+        Node::Trace(count) => {
+            let traced = evaluate_all(script, count, number + 1, variables)?;
+            (Ask::Trace(traced.values), traced.behind)
+        }
+        Node::OnObjectWith { call, object } => {
+            let given = evaluate(script, number + 1, variables)?;
+            let operand = given.value;
+            (
+                Ask::OnObjectWith {
+                    call,
+                    object,
+                    operand,
+                },
+                given.behind,
+            )
+        }
+        Node::Sleep => {
+            let time = evaluate_number(script, number + 1, variables)?;
+            (Ask::Sleep(time.number), time.behind)
+        }
+        Node::TakeBytes { reader } => {
+            let most = evaluate_number(script, number + 1, variables)?;
+            let reader = variables.number(reader);
+            let count = most.number;
+            (Ask::TakeBytes { reader, count }, most.behind)
+        }
+        Node::Put { writer } => {
+            let written = evaluate_text(script, number + 1, variables)?;
+            let writer = variables.number(writer);
+            let text = written.text;
+            (Ask::PutText { writer, text }, written.behind)
+        }
+        _ => return Ok(None),
+    };
+    let step = Step::Calls(call);
+    Ok(Some(Stepped { step, after }))
+}
+
+/// The step of a statement that calls with a path. Other statements have none here.
+pub(crate) fn call_on_path(
+    script: &Script,
+    number: u32,
+    variables: &Scope,
+) -> Result<Option<Stepped>, Misuse>
+    requires { BeginsStatement (nodes_of script.now) number }
+    ensures { IsStepOrRaiseIf is_of_path (nodes_of script.now) (length script.now.texts) number variables.now result }
+{
+    let (call, after) = match *script.node(number) {
+        Node::OpenDir {
+            directory,
+            body,
+            after,
+        } => {
+            let path = evaluate_text(script, number + 1, variables)?.text;
+            let place = place(directory, variables);
+            (Ask::OpenDirectory { place, path, body }, after)
+        }
+        Node::OnPath { call, directory } => {
+            let named = evaluate_text(script, number + 1, variables)?;
+            let place = place(directory, variables);
+            let path = named.text;
+            (Ask::OnPath { call, place, path }, named.behind)
+        }
+        Node::Save {
+            only_new,
+            directory,
+        } => {
+            let named = evaluate_text(script, number + 1, variables)?;
+            let saved = evaluate_text(script, named.behind, variables)?;
+            let call = Ask::Save {
+                only_new,
+                place: place(directory, variables),
+                path: named.text,
+                content: saved.text,
+            };
+            (call, saved.behind)
+        }
+        _ => return Ok(None),
+    };
+    let step = Step::Calls(call);
+    Ok(Some(Stepped { step, after }))
+}
+
+/// The directory that a statement names.
+fn place(directory: Directory, variables: &Scope) -> Place
+    ensures { place_of result ≡ place_in variables.now (directory_of directory) }
+{
+    match directory {
+        Directory::Declared(number) => Place::Declared(number),
+        Directory::Opened(slot) => Place::Opened(variables.number(slot)),
+    }
+}

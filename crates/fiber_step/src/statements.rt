@@ -1,0 +1,210 @@
+//! What the statements do that are left of a block, up to where the fiber calls or goes on.
+
+ghost use Rattle.std.specs.Prelude.{◌≡◌, ◌≤◌, ◌<◌, ◌^◌, length, List, IfOk, OnOk};
+ghost use Rattle.fiber_step.specs.Having.{BeginsStatement, HasStatements};
+ghost use Rattle.fiber_step.specs.Stating.{IsForm};
+ghost use Rattle.script_lang.specs.Flat.{nodes_of};
+
+use crate::ask::Ask;
+use crate::draft::Draft;
+use crate::evaluation::evaluate;
+use crate::mark::Mark;
+use crate::step::{Step, Stepped, step_at};
+use crate::turn::Turn;
+use eio_value::{NoMemory, Plain, Texts, Value};
+use script_lang::{Node, ObjectCall, Script};
+
+/// The number of the form behind the `let`s that begin here.
+fn form_of(script: &Script, number: u32) -> u32
+    requires { BeginsStatement (nodes_of script.now) number }
+    ensures { IsForm (nodes_of script.now) number result }
+{
+    let mut form = number;
+    'lets: while let Node::LetForm = script.node(form) {
+        form += 1;
+    }
+    form
+}
+
+impl<'f> Draft<'f> {
+    ghost use Rattle.eio_value.specs.declared.raised.Outcome.TheVariants as outcome;
+    ghost use Rattle.eio_value.specs.declared.value.Value.{Value as Held};
+    ghost use Rattle.std.specs.Prelude.{◌+◌, ℕ, true};
+    ghost use Rattle.script_lang.specs.Standing.{Stands};
+    ghost use Rattle.script_lang.specs.declared.node.Node.{Node as Begun};
+    ghost use Rattle.script_lang.specs.declared.node.Node.TheVariants as node;
+    ghost use Rattle.fiber_step.specs.Having.{HasExpression};
+    ghost use Rattle.fiber_step.specs.Stepping.{IsStepped};
+    ghost use Rattle.fiber_step.specs.Stating.{binding, NoGive, is_entering, IsLastStep, RaisesWithin, IsSilentStep, IsDoneBy};
+    ghost use Rattle.fiber_step.specs.Throwing.{shared_by, IsGrown, IsTurnWith};
+    ghost use Rattle.fiber_step.specs.Turning.{with_mark};
+    ghost use Rattle.fiber_step.specs.declared.mark.Mark.TheVariants as mark;
+
+    /// The marks of so many `let`s whose form is under way.
+    fn bind(&mut self, lets: u32) -> Result<(), NoMemory>
+        ensures { OnOk result (self.new ≡ record self.old { now = binding lets self.old.now }) }
+    {
+        let mut left = lets;
+        'binding: while left > 0 {
+            let slot = self.slots();
+            self.push(Mark::Bind { slot })?;
+            left -= 1;
+        }
+        Ok(())
+    }
+
+    /// The statements of a block from this node on.
+    ///
+    /// # Errors
+    /// [`NoMemory`] where memory runs out, or the numbers of raises or texts.
+    pub(crate) fn run(
+        &mut self,
+        script: &Script,
+        at: u32,
+        texts: &mut Texts,
+        serial: &mut u64,
+    ) -> Result<Turn, NoMemory>
+        requires statements { HasStatements (nodes_of script.now) at }
+        requires texts { length script.now.texts ≤ length texts.old }
+        ensures fiber { OnOk result (self.new.fiber ≡ self.old.fiber) }
+        ensures grown { IsGrown texts.old texts.new }
+        ensures turn { IfOk result (λ it. (value : Held) → IsTurnWith (nodes_of script.now) (outcome.Ok value) (with_mark (mark.Run at) self.old.now) (shared_by texts.old serial.old) it self.new.now (shared_by texts.new serial.new)) }
+    {
+        match script.node(at) {
+            Node::End => Ok(Turn::GoesOn(Value::Unit)),
+            Node::Give => self.give(script, at, texts, serial),
+            _ => self.state(script, at, form_of(script, at), texts, serial),
+        }
+    }
+
+    /// The statement that gives its block's value.
+    fn give(
+        &mut self,
+        script: &Script,
+        at: u32,
+        texts: &mut Texts,
+        serial: &mut u64,
+    ) -> Result<Turn, NoMemory>
+        requires within { at + 1 < 2 ^ 32 }
+        requires gives { Stands (nodes_of script.now) at node.Give }
+        requires operand { HasExpression (nodes_of script.now) (at + 1) }
+        ensures fiber { OnOk result (self.new.fiber ≡ self.old.fiber) }
+        ensures grown { IsGrown texts.old texts.new }
+        ensures turn { IfOk result (λ it. (value : Held) → IsTurnWith (nodes_of script.now) (outcome.Ok value) (with_mark (mark.Run at) self.old.now) (shared_by texts.old serial.old) it self.new.now (shared_by texts.new serial.new)) }
+    {
+        match evaluate(script, at + 1, &self.scope()) {
+            Ok(operand) => Ok(Turn::GoesOn(operand.value)),
+            Err(why) => self.raise(Plain::Invalid(why), texts, serial),
+        }
+    }
+
+    /// A statement that doesn't give its block's value, with the number of the form behind its `let`s.
+    fn state(
+        &mut self,
+        script: &Script,
+        at: u32,
+        form: u32,
+        texts: &mut Texts,
+        serial: &mut u64,
+    ) -> Result<Turn, NoMemory>
+        requires form { IsForm (nodes_of script.now) at form }
+        requires first { NoGive (nodes_of script.now) at }
+        requires texts { length script.now.texts ≤ length texts.old }
+        ensures fiber { OnOk result (self.new.fiber ≡ self.old.fiber) }
+        ensures grown { IsGrown texts.old texts.new }
+        ensures turn { IfOk result (λ it. (value : Held) → IsTurnWith (nodes_of script.now) (outcome.Ok value) (with_mark (mark.Run at) self.old.now) (shared_by texts.old serial.old) it self.new.now (shared_by texts.new serial.new)) }
+    {
+        match step_at(script, form, &self.scope()) {
+            Ok(stepped) => self.take_step(at, form, stepped, texts, serial),
+            Err(why) => self.raise(Plain::Invalid(why), texts, serial),
+        }
+    }
+
+    /// What the form of a statement comes to, behind its `let`s.
+    fn take_step(
+        &mut self,
+        at: u32,
+        form: u32,
+        stepped: Stepped,
+        texts: &mut Texts,
+        serial: &mut u64,
+    ) -> Result<Turn, NoMemory>
+        requires lets { at ≤ form }
+        requires step { IsLastStep stepped.step }
+        requires text { RaisesWithin (length texts.old) stepped.step }
+        ensures fiber { OnOk result (self.new.fiber ≡ self.old.fiber) }
+        ensures grown { IsGrown texts.old texts.new }
+        ensures turn { IfOk result (λ it. (nodes : List Begun) (count : ℕ) (value : Held) → IsForm nodes at form → NoGive nodes at → IsStepped nodes count form self.old.now.variables stepped → IsTurnWith nodes (outcome.Ok value) (with_mark (mark.Run at) self.old.now) (shared_by texts.old serial.old) it self.new.now (shared_by texts.new serial.new)) }
+    {
+        if let Step::Raises(text) = stepped.step {
+            return self.raise(Plain::Failure(text), texts, serial);
+        }
+        self.push(Mark::Run(stepped.after))?;
+        self.bind(form - at)?;
+        self.go_by(stepped.step)
+    }
+
+    /// What a statement comes to that raises nothing.
+    fn go_by(&mut self, step: Step) -> Result<Turn, NoMemory>
+        requires { IsSilentStep step }
+        ensures fiber { OnOk result (self.new.fiber ≡ self.old.fiber) }
+        ensures done { IfOk result (λ it. IsDoneBy step self.old.now it self.new.now) }
+    {
+        match step {
+            Step::Past(value) => Ok(Turn::GoesOn(value)),
+            Step::Named(value) => {
+                self.name(value)?;
+                Ok(Turn::GoesOn(Value::Unit))
+            }
+            Step::Calls(call) => Ok(Turn::Calls(call)),
+            Step::Locks { mutex, body } => {
+                self.push(Mark::Locking { mutex, body })?;
+                Ok(Turn::Calls(Ask::OnObject {
+                    call: ObjectCall::Lock,
+                    object: mutex,
+                }))
+            }
+            Step::Uses { pool, body } => {
+                self.push(Mark::Using { pool, body })?;
+                Ok(Turn::Calls(Ask::Use { pool }))
+            }
+            _ => self.enter_by(step),
+        }
+    }
+
+    /// The same where it goes into a block.
+    fn enter_by(&mut self, step: Step) -> Result<Turn, NoMemory>
+        requires silent { IsSilentStep step }
+        requires enters { is_entering step ≡ true }
+        ensures fiber { OnOk result (self.new.fiber ≡ self.old.fiber) }
+        ensures done { IfOk result (λ it. IsDoneBy step self.old.now it self.new.now) }
+    {
+        let keep = self.slots();
+        match step {
+            Step::Block { body } => {
+                self.go_into(Mark::Cut { keep }, body)?;
+                Ok(Turn::GoesOn(Value::Unit))
+            }
+            Step::Tried { tried, handler } => {
+                self.go_into(Mark::Try { handler, keep }, tried)?;
+                Ok(Turn::GoesOn(Value::Unit))
+            }
+            Step::Looped { body } => {
+                self.go_into(Mark::Loop { body, keep }, body)?;
+                Ok(Turn::Calls(Ask::Turn))
+            }
+            Step::Repeated { left, body } => {
+                self.name(Value::Int(0))?;
+                let end = Mark::Repeat {
+                    turn: 1,
+                    left,
+                    body,
+                    keep,
+                };
+                self.go_into(end, body)?;
+                Ok(Turn::Calls(Ask::Turn))
+            }
+            _ => unreachable!(),
+        }
+    }
+}

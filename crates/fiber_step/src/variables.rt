@@ -1,0 +1,141 @@
+//! The variables of a fiber: a list in which a slot is a place.
+
+ghost use Rattle.std.specs.Prelude.{◌≡◌};
+
+use eio_value::{NoMemory, Value};
+use std::marker::Model;
+
+/// The variables of a fiber, by their slots.
+#[derive(Drop)]
+pub struct Variables {
+    list: Vec<Value>,
+}
+
+impl Model for Variables {
+    ghost use Rattle.std.specs.Prelude.{List};
+    ghost use Rattle.eio_value.specs.declared.value.Value.{Value as Held};
+
+    ghost Value = { List Held };
+
+    ghost view = { λ inside. inside.list.items };
+}
+
+impl Variables {
+    ghost use Rattle.std.specs.Prelude.{◌++◌, [], ◌∷◌, take, length, OnErr, OnOk};
+
+    /// These variables.
+    pub fn new(list: Vec<Value>) -> Variables
+        ensures { result ≡ list.items }
+    {
+        Variables { list }
+    }
+
+    /// All of them, in order.
+    pub fn as_slice(&self) -> &[Value]
+        ensures { result.now ≡ self.now }
+    {
+        self.list.as_slice()
+    }
+
+    /// Keeps the first slots alone.
+    pub fn cut(&mut self, keep: usize)
+        ensures { self.new ≡ take keep self.old }
+    {
+        self.list.truncate(keep);
+    }
+
+    /// How many slots there are.
+    pub fn len(&self) -> usize
+        ensures { result ≡ length self.now }
+    {
+        self.list.len()
+    }
+
+    /// One more, in the next slot.
+    ///
+    /// # Errors
+    /// [`NoMemory`] where memory runs out; then they are as they were.
+    pub fn push(&mut self, value: Value) -> Result<(), NoMemory>
+        ensures ok { OnOk result (self.new ≡ self.old ++ value ∷ []) }
+        ensures err { OnErr result (self.new ≡ self.old) }
+    {
+        self.list.push(value)?;
+        Ok(())
+    }
+
+    /// Keeps the first slots alone, and puts these behind them, of which none are left.
+    ///
+    /// # Errors
+    /// [`NoMemory`] where memory runs out; then they are as they were.
+    pub(crate) fn change(&mut self, keep: usize, values: &mut Vec<Value>) -> Result<(), NoMemory>
+        ensures ok { OnOk result (self.new ≡ take keep self.old ++ values.old.items) }
+        ensures err { OnErr result (self.new ≡ self.old) }
+    {
+        self.list.reserve(values.len())?;
+        self.list.truncate(keep);
+        match self.list.append(values) {
+            Ok(()) => Ok(()),
+            Err(_) => unreachable!(),
+        }
+    }
+}
+
+/// The variables in scope while a fiber settles: the first of those that it had, and those that came since.
+#[derive(Drop)]
+pub struct Scope<'v> {
+    kept: &'v [Value],
+    since: &'v [Value],
+}
+
+impl<'v> Model for Scope<'v> {
+    ghost use Rattle.std.specs.Prelude.{List, ◌++◌};
+    ghost use Rattle.eio_value.specs.declared.value.Value.{Value as Held};
+
+    ghost Value = { List Held };
+
+    ghost view = { λ inside. inside.kept.now ++ inside.since.now };
+}
+
+impl<'v> Scope<'v> {
+    ghost use Rattle.std.specs.Prelude.{◌++◌, length};
+    ghost use Rattle.step_model.specs.Evaluation.{value_at, number_at};
+
+    /// These, and those behind them.
+    pub fn new(kept: &'v [Value], since: &'v [Value]) -> Scope<'v>
+        ensures { result ≡ kept.now ++ since.now }
+    {
+        Scope { kept, since }
+    }
+
+    /// How many slots there are.
+    pub fn len(&self) -> usize
+        ensures { result ≡ length self.now }
+    {
+        self.kept.len() + self.since.len()
+    }
+
+    /// The value of a slot. One that there is not is unit.
+    pub fn value(&self, slot: u32) -> Value
+        ensures { result ≡ value_at self.now slot }
+    {
+        let slot = slot as usize;
+        let found = if slot < self.kept.len() {
+            self.kept.get(slot)
+        } else {
+            self.since.get(slot - self.kept.len())
+        };
+        found.copied().unwrap_or(Value::Unit)
+    }
+
+    /// The number that a slot holds: of a context, a switch, a reader, a writer or a directory.
+    pub fn number(&self, slot: u32) -> u64
+        ensures { result ≡ number_at self.now slot }
+    {
+        match self.value(slot) {
+            Value::Ctx(number) => number as u64,
+            Value::Switch(number) => number as u64,
+            Value::Int(number) if number >= 0 => number as u64,
+            _ => 0,
+        }
+    }
+}
