@@ -24,13 +24,13 @@ index-requires c =
 pub returns-in-Some-parent : goal.returns-in-Some-parent
 returns-in-Some-parent c =
     let stands : context_at c.args.self.now c.args.c ≡ context_of (Some c.index.result.now) =
-        ap (λ contexts. context_at contexts c.args.c) (sym c.self.view_is)
-        ∙ stands_there c.self.inside.made c.self.inside.kept c.self.inside.places.items c.self.invariant.tree c.args.c c.in-Some.place c.index.result.now (at (goal.at.returns-in-Some-parent c).In-Some) c.index.ensures in
+    ap (λ contexts. context_at contexts c.args.c) (sym c.self.view_is)
+    ∙ stands_there c.self.inside.made c.self.inside.kept c.self.inside.places.items c.self.invariant.tree c.args.c c.in-Some.place c.index.result.now (at (goal.at.returns-in-Some-parent c).In-Some) c.index.ensures in
     sym (ap (λ (context : Context). context.parent) stands ∙ ap (option_map (λ (place : Place). place.number)) c.in-Some-parent.is)
 
 pub returns-in-None : goal.returns-in-None
 returns-in-None c =
     let stands : context_at c.args.self.now c.args.c ≡ context_of (Some c.index.result.now) =
-        ap (λ contexts. context_at contexts c.args.c) (sym c.self.view_is)
-        ∙ stands_there c.self.inside.made c.self.inside.kept c.self.inside.places.items c.self.invariant.tree c.args.c c.in-Some.place c.index.result.now (at (goal.at.returns-in-None c).In-Some) c.index.ensures in
+    ap (λ contexts. context_at contexts c.args.c) (sym c.self.view_is)
+    ∙ stands_there c.self.inside.made c.self.inside.kept c.self.inside.places.items c.self.invariant.tree c.args.c c.in-Some.place c.index.result.now (at (goal.at.returns-in-None c).In-Some) c.index.ensures in
     sym (ap (λ (context : Context). context.parent) stands ∙ ap (option_map (λ (place : Place). place.number)) c.in-None.is)
