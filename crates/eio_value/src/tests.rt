@@ -21,6 +21,10 @@ fn texts_and_values(rt: HostRuntime) -> Result<(), Fail> {
     quote(&texts, Value::Text(escaped), &mut out)?;
     quote(&texts, Value::Int(7), &mut out)?;
     assert_eq!(rt; out.as_slice(), b"-5()#12%0\"\\n\"\\\"\\n\"7".as_slice());
+    texts.truncate(1);
+    assert_eq!(rt; texts.len(), 1);
+    assert_eq!(rt; texts.intern(b"b")?, escaped);
+    assert_eq!(rt; texts.bytes(plain), b"a".as_slice());
     Ok(())
 }
 

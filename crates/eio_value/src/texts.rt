@@ -4,7 +4,7 @@
 //! a set that keeps the order of insertion, once each: the set finds a text by its hash, and a number
 //! is an index of the set. That no text stands there twice, and that the hashes lead to the texts, are
 //! invariants of the set.
-ghost use Rattle.std.specs.Prelude.{◌≡◌, ◌-◌, ◌<◌, ◌^◌, ◌↔◌, [], length, IsTrue, IfOk, OnErr};
+ghost use Rattle.std.specs.Prelude.{◌≡◌, ◌-◌, ◌<◌, ◌^◌, ◌↔◌, [], length, take, IsTrue, IfOk, OnErr};
 
 use crate::{NoMemory, TextId};
 use indexmap::IndexSet;
@@ -71,6 +71,13 @@ impl Texts {
         let text = bytes.to_vec(self.alloc)?;
         let (at, _) = self.texts.insert_full(text)?;
         Ok(TextId(at as u32))
+    }
+
+    /// Keeps the first so many texts alone, with their numbers; where it has no more than those, it stays as it is.
+    pub fn truncate(&mut self, len: usize)
+        ensures { self.new ≡ take len self.old }
+    {
+        self.texts.truncate(len);
     }
 
     /// The text with this number.

@@ -6,10 +6,13 @@ pub mod Captures
 pub mod Statements
 pub mod Declarations
 pub mod Scripts
-pub mod SharedSteps
-pub mod SharedOperands
+pub mod FormedSteps
+pub mod FormedOperands
+pub mod FormedItems
 pub mod SharedStatements
 pub mod SharedScripts
+pub mod FirstStatements
+pub mod FirstScripts
 pub mod Commands
 pub mod Unsound
 pub mod Bare

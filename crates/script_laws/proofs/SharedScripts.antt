@@ -1,100 +1,28 @@
 -- Scripts without a form for the mocked domain alone are shared ones (`shared_scripts_have_no_mocked_form`).
-use Rattle.std.proofs.Common.{◌≡◌, ℕ, ◌+◌, Bool, true, false, ◌&&◌, ◌||◌, List, [], ◌∷◌, length, Option, Some, None, Result, Ok, Err, refl, sym, subst}
-use Rattle.std.specs.Prelude.{nat_lt, is_none, codes, pos, negsuc, not, IfSome}
-use Rattle.std.specs.List.{AllByRecursion as Each, list_any}
+use Rattle.std.proofs.Common.{◌≡◌, ℕ, ◌+◌, Bool, true, false, ◌||◌, List, [], ◌∷◌, length, Option, Some, None, Result, Ok, Err, refl, sym, subst}
+use Rattle.std.specs.Prelude.{nat_lt, is_none, codes, not, IfSome}
+use Rattle.std.specs.List.{AllByRecursion as Each}
 use Rattle.std.specs.Str.{bytes_eq}
 use Rattle.std.proofs.lemmas.Bool.{false≢true}
 use Rattle.std.proofs.lemmas.List.Elements.{All-from_recursion}
-use Rattle.eio_value.specs.declared.flow_step.FlowStep.TheVariants.{Data, Fault, Pause}
-use Rattle.eio_value.specs.Directory as directory
-use Rattle.eio_value.specs.Directory.{File, Link, Sub, Empty}
-use Rattle.script_model.specs.Declarations.{Declaration, Stream, Promise, Semaphore, Mutex, Pool, Executor, Flow, Dir, DeclarationForm, declaration_forms, declaration_form_of, workers, items_of, Declared, nothing_declared, with_declaration, declare, declaration_by, declaration, declarations_behind}
-use Rattle.script_model.specs.Entries.{name_of, EntryHead, FileHead, LinkHead, SubHead, entry_head, is_entry_name, entry_name, content_of, entries, entry, entry_by}
+use Rattle.script_model.specs.Declarations.{Declaration, Stream, Promise, Semaphore, Mutex, Pool, Executor, Flow, Dir, DeclarationForm, declaration_forms, declaration_form_of, items_of, Declared, nothing_declared, with_declaration, declare, declaration_by, declaration, declarations_behind}
 use Rattle.script_model.specs.Faults.{ScriptFault, Shape, Size, Twice}
-use Rattle.script_model.specs.FlowSteps.{StepHead, DataHead, FaultHead, PauseHead, step_head, data_of, step_by, step, steps}
 use Rattle.script_model.specs.Kinds.{Kind, StreamKind, PromiseKind, SemaphoreKind, MutexKind, PoolKind, ExecutorKind, FlowKind, DirectoryKind}
-use Rattle.script_model.specs.Limits.{most_declarations, most_workers, most_flow_steps, most_entries, most_bodies, capacities, counts, sizes}
-use Rattle.script_model.specs.Reads.{nothing_made, Reads, ◌>>>◌, gives, refuses, requires_that, one_step, one_entry}
+use Rattle.script_model.specs.Limits.{most_declarations, most_bodies, capacities, counts, sizes}
+use Rattle.script_model.specs.Reads.{nothing_made, Reads, ◌>>>◌, gives, refuses, requires_that}
 use Rattle.script_model.specs.Scopes.{named_in}
 use Rattle.script_model.specs.Scripts.{Script, items_behind, Parts, parts_of, bodies_of, body_scope, body, domains, read_parts, script_by, script_of_parts, is_one, root_of, script_of}
 use Rattle.script_model.specs.Statements.{statements}
 use Rattle.script_model.specs.Syntax.{Block}
-use Rattle.script_model.specs.Trees.{Tree, Word, Number, Text, Branch, Trees, Nil, And, place_of}
+use Rattle.script_model.specs.Trees.{Tree, Word, Number, Branch, Trees, Nil, And, place_of}
 use Rattle.tree_laws.proofs.Steps.{same_Ok, err-ok, both_gave}
 use Rattle.script_laws.specs.Readings.{SharedScriptsHaveNoMockedForm}
 use Rattle.script_laws.specs.Sharing.{IsSharedBlock, IsSharedDeclaration, IsShared}
 use Rattle.script_laws.proofs.Lists.{found_passes, none_passes, each_more}
-use Rattle.script_laws.proofs.SharedOperands.{interned_keeps, text_keeps, number_keeps}
-use Rattle.script_laws.proofs.SharedStatements.{mark_holds, block_is_shared, statements_are_shared}
-use Rattle.script_laws.proofs.SharedSteps.{IsPlain, Keeps, Shares, told, given, refused, going_on, past, met, weaker, one_form_shares}
-
--- ## Items of declarations
-
-one_step_keeps : (at : ℕ) → Keeps (one_step at)
-one_step_keeps at =
-    past (told (λ made. made) (λ made. made) (λ made plain. (plain, tt))) λ before.
-    met (nat_lt before.steps most_flow_steps) (Size at) (told (λ made. tt) (λ made. record made { steps = made.steps + 1 }) (λ made plain. (plain, tt)))
-
-one_entry_keeps : (at : ℕ) → Keeps (one_entry at)
-one_entry_keeps at =
-    past (told (λ made. made) (λ made. made) (λ made plain. (plain, tt))) λ before.
-    met (nat_lt before.entries most_entries) (Size at) (told (λ made. tt) (λ made. record made { entries = made.entries + 1 }) (λ made plain. (plain, tt)))
-
-data_keeps : (tree : Tree) → Keeps (data_of tree)
-data_keeps (Text at (b ∷ bytes)) = past (interned_keeps (b ∷ bytes)) λ _. given (b ∷ bytes) tt
-data_keeps tree = refused (Shape (place_of tree))
-
-step_by_keeps : (at : ℕ) (head : Option StepHead) (items : Trees) → Keeps (step_by at head items)
-step_by_keeps at (Some DataHead) (And text Nil) = past (one_step_keeps at) λ _. past (data_keeps text) λ bytes. given (Data bytes) tt
-step_by_keeps at (Some FaultHead) (And text Nil) = past (one_step_keeps at) λ _. past (text_keeps text) λ id. given (Fault id) tt
-step_by_keeps at (Some PauseHead) Nil = past (one_step_keeps at) λ _. given Pause tt
-step_by_keeps at head items = refused (Shape at)
-
-step_keeps : (tree : Tree) → Keeps (step tree)
-step_keeps (Branch at (And (Word place word) items)) = step_by_keeps at (step_head word) items
-step_keeps tree = refused (Shape (place_of tree))
-
-steps_keep : (row : Trees) → Keeps (steps row)
-unfolding steps
-steps_keep Nil = given [] tt
-steps_keep (And tree row) = past (step_keeps tree) λ first. past (steps_keep row) λ others. given (first ∷ others) tt
-
-entry_name_keeps : (before : List (List ℕ)) (tree : Tree) → Keeps (entry_name before tree)
-entry_name_keeps before (Text at name) =
-    met (is_entry_name name) (Shape at) (met (not (list_any (bytes_eq name) before)) (Twice at) (past (interned_keeps name) λ _. given name tt))
-entry_name_keeps before tree = refused (Shape (place_of tree))
-
-content_keeps : (tree : Tree) → Keeps (content_of tree)
-content_keeps (Text at text) = past (interned_keeps text) λ _. given text tt
-content_keeps tree = refused (Shape (place_of tree))
-
-mutual
-  unfolding entries entry entry_by
-
-  entries_keep : (before : List (List ℕ)) (row : Trees) → Keeps (entries before row)
-  entries_keep before Nil = given Empty tt
-  entries_keep before (And tree row) = past (entry_keeps before tree) λ first. past (entries_keep (name_of first ∷ before) row) λ others. given (directory.And first others) tt
-
-  entry_keeps : (before : List (List ℕ)) (tree : Tree) → Keeps (entry before tree)
-  entry_keeps before (Branch at (And (Word place word) items)) = entry_by_keeps before at (entry_head word) items
-  entry_keeps before tree = refused (Shape (place_of tree))
-
-  entry_by_keeps : (before : List (List ℕ)) (at : ℕ) (head : Option EntryHead) (items : Trees) → Keeps (entry_by before at head items)
-  entry_by_keeps before at (Some FileHead) (And name (And content Nil)) =
-      past (one_entry_keeps at) λ _. past (entry_name_keeps before name) λ own. past (content_keeps content) λ bytes. given (File own bytes) tt
-  entry_by_keeps before at (Some LinkHead) (And name (And target Nil)) =
-      past (one_entry_keeps at) λ _. past (entry_name_keeps before name) λ own. past (content_keeps target) λ bytes. given (Link own bytes) tt
-  entry_by_keeps before at (Some SubHead) (And name items) =
-      past (one_entry_keeps at) λ _. past (entry_name_keeps before name) λ own. past (entries_keep [] items) λ inner. given (Sub own inner) tt
-  entry_by_keeps before at head items = refused (Shape at)
-
-workers_keep : (bodies n : ℕ) (row : Trees) → Keeps (workers bodies n row)
-unfolding workers
-workers_keep bodies n Nil = given [] tt
-workers_keep bodies n (And (Number at (pos body)) row) =
-    met (nat_lt n most_workers && nat_lt body bodies) (Size at) (past (workers_keep bodies (n + 1) row) λ others. given (body ∷ others) tt)
-workers_keep bodies n (And (Number at (negsuc z)) row) = refused (Size at)
-workers_keep bodies n (And tree row) = refused (Shape (place_of tree))
+use Rattle.script_laws.proofs.FormedItems.{entries_keep, steps_keep, workers_keep}
+use Rattle.script_laws.proofs.FormedOperands.{interned_keeps, number_keeps}
+use Rattle.script_laws.proofs.SharedStatements.{IsPlain, Shares, mark_holds, block_is_shared, statements_are_shared}
+use Rattle.script_laws.proofs.FormedSteps.{given, refused, going_on, past, met, weaker, one_form_brings}
 
 -- ## Declarations
 
@@ -143,7 +71,7 @@ declaration_by_shares : (before : Declared) (at : ℕ) (form : DeclarationForm) 
 declaration_by_shares before at form marked name None own = refused (Shape at)
 declaration_by_shares before at form marked name (Some items) own =
     met (nat_lt (length before.declarations) most_declarations) (Size at)
-    (going_on (one_form_shares at form.feature form.mocked) λ _. weaker (λ more stays plain. stays (marked plain)) (declare_shares before form.kind name items own))
+    (going_on (one_form_brings at form.feature form.mocked) λ _. weaker (λ more stays plain. stays (marked plain)) (declare_shares before form.kind name items own))
 
 declaration_shares : (bodies : ℕ) (before : Declared) (tree : Tree) → Shares (StayShared before) (declaration bodies before tree)
 unfolding declaration
@@ -199,7 +127,7 @@ parts_are_shared parts =
 
 -- no form of the script is for the mocked domain alone
 abbrev HasPlainForms : Script → Type 0
-HasPlainForms script = IsPlain script.formed → IsShared script
+HasPlainForms script = Each IsPlain script.formed → IsShared script
 
 parts_make_shared : (parts : Parts) (script : Script) → script_of_parts parts ≡ Ok script → HasPlainForms script
 parts_make_shared parts script e =

@@ -9,17 +9,25 @@ use Rattle.script_model.specs.Faults.{Shape, Size}
 use Rattle.script_model.specs.Forms.{Head, LetHead, IfHead, GiveHead, RaiseHead, TryHead, RepeatHead, LoopHead, TraceHead, YieldHead, CheckHead, AwaitCancelHead, SubHead, ProtectHead, CancelHead, SwitchHead, ForkHead, ForkDaemonHead, ForkPromiseHead, FailHead, OnReleaseHead, PairHead, RowHead, ObjectHead, ObjectHeadWith, UseRwHead, UsePoolHead, SubmitHead, SleepHead, NowHead, BufReadHead, ReaderHead, TakeBytesHead, CopyHead, BufWriteHead, PutHead, OpenDirHead, PathHead, SaveHead, Form, forms, form_of, feature_of}
 use Rattle.script_model.specs.Kinds.{VariableKind, ContextKind, SwitchKind, ReaderKind, WriterKind, CapabilityKind, PromiseKind, MutexKind, PoolKind, ExecutorKind, FlowKind, object_kind, object_kind_with}
 use Rattle.script_model.specs.Limits.{weights, reader_limits, most_branches}
-use Rattle.script_model.specs.Reads.{Reads, ◌>>>◌, gives, refuses, requires_that}
+use Rattle.script_model.specs.Reads.{Formed, Reads, ◌>>>◌, gives, refuses, requires_that}
 use Rattle.script_model.specs.Scopes.{Scope}
 use Rattle.script_model.specs.Statements.{form_node, block_of, statements, statement, value, block, branches, form}
 use Rattle.script_model.specs.Syntax.{Statement, Let, LetForm, If, Give, Raise, Try, Repeat, Loop, Trace, Yield, Check, AwaitCancel, Sub, Protect, Cancel, Switch, Fork, Fail, OnRelease, Branches, OnObject, OnObjectWith, UseRw, UsePool, Submit, Sleep, Now, BufRead, OnReader, TakeBytes, Copy, BufWrite, Put, OpenDir, OnPath, Save, Plain, Daemon, Promising, Begins, Statements, Done, Then, NoBlocks, AndBlock}
 use Rattle.script_model.specs.Trees.{Tree, Word, Branch, Trees, Nil, And, place_of}
 use Rattle.script_laws.specs.Sharing.{IsSharedStatement, IsSharedBlock, AreSharedStatements, AreSharedBlocks}
 use Rattle.script_laws.proofs.Lists.{found_passes}
-use Rattle.script_laws.proofs.SharedOperands.{failure_keeps, number_keeps, bring_keeps, used_keeps, directory_keeps, captured_keeps, expression_keeps, operands_keep}
-use Rattle.script_laws.proofs.SharedSteps.{Shares, given, refused, going_on, past, met, weaker, next_node_keeps, one_node_keeps, one_form_shares}
+use Rattle.script_laws.proofs.FormedOperands.{failure_keeps, number_keeps, bring_keeps, used_keeps, directory_keeps, captured_keeps, expression_keeps, operands_keep}
+use Rattle.script_laws.proofs.FormedSteps.{Brings, given, refused, going_on, past, met, weaker, next_node_keeps, one_node_keeps, one_form_brings}
 
 -- ## Forms for the mocked domain alone
+
+-- a form that isn't such a one
+abbrev pub IsPlain : Formed → Type 0
+IsPlain it = it.mocked ≡ false
+
+-- where the step gives a value and no form is such a one then, none was so before, and that is such a value
+abbrev pub Shares : {A : Type 0} → (A → Type 0) → Reads A → Type 0
+Shares {A} P read = Brings IsPlain {A = A} P read
 
 abbrev is_mocked : Head → Bool
 is_mocked SleepHead = true
@@ -47,7 +55,7 @@ plain_head word it e plain =
     mark_holds (is_mocked it.head) it.mocked (found_passes (λ form. not (is_mocked form.head) || form.mocked) (λ form. bytes_eq form.word word) forms it refl e) plain
 
 form_node_shares : (at : ℕ) (it : Form) (items : Trees) → Shares (λ _. it.mocked ≡ false) (form_node at it items)
-form_node_shares at it items = going_on (one_form_shares at (feature_of it items) it.mocked) λ _. weaker (λ a u is. is) one_node_keeps
+form_node_shares at it items = going_on (one_form_brings at (feature_of it items) it.mocked) λ _. weaker (λ a u is. is) one_node_keeps
 
 -- ## Statements
 

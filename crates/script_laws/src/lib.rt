@@ -3,6 +3,7 @@
 //! A law is stated in `specs/`, and what proves it stands in the files of `proofs/`.
 #![tactic(auto)]
 
+ghost use Rattle.script_laws.specs.FirstForms.{FirstFormsAlone};
 ghost use Rattle.script_laws.specs.Generated.{GeneratedAreScripts};
 ghost use Rattle.script_laws.specs.Meanings.{PlacesDontCount};
 ghost use Rattle.script_laws.specs.Printing.{PrintIsReadAgain, PrintStandsForTheScript};
@@ -23,6 +24,12 @@ pub fn read_scripts_are_sound()
 pub fn shared_scripts_have_no_mocked_form()
     ensures trees { SharedScriptsHaveNoMockedForm }
     ensures domains { DomainScriptsAreShared }
+{}
+
+/// A script of which no form is refused as unbuilt, where the first forms are all that is built, has no other form than
+/// `switch`, `fork`, `trace` of texts and `yield`, in whatever depth.
+pub fn first_forms_alone()
+    ensures { FirstFormsAlone }
 {}
 
 /// Trees that are the same but for their places stand for the same script, places aside, or are both refused for the same
