@@ -1,2 +1,3 @@
+pub mod Behind
 pub mod Due
 pub mod Meanings

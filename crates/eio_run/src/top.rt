@@ -49,7 +49,7 @@ pub fn eio_run<R: Threads + Wait + Sync, S: Source, K: Sink, G: Gate>(
     // No script of the forms that are run waits for ever, raises, passes a limit or runs out of steps.
     ensures over { CanCome result }
 {
-    match command_of(words) {
+    match command_of(alloc, words) {
         None => Status::Usage,
         Some(Command::Mock(steps)) => mock_run(alloc, source, sink, steps),
         Some(Command::Check) => inspect_run(alloc, Inspection::Check, source, sink),
