@@ -1,5 +1,6 @@
 -- What an exception comes to.
 use Rattle.std.proofs.Common.{◌≡◌, ◌≤◌, ◌+◌, ℕ, List, [], ◌∷◌, ◌++◌, append-nil, append_assoc, Option, Some, None, true, false, length, take, refl, sym, ap, ◌∙◌, subst, arith}
+use Rattle.std.proofs.Math.Seq.{take-append_seam}
 use Rattle.std.specs.Prelude.{position}
 use Rattle.std.specs.Str.{bytes_eq}
 use Rattle.eio_value.specs.Exceptions.{bound_text}
@@ -42,6 +43,10 @@ grown_by texts text None = record { more = text ∷ []; is = refl }
 
 pub none_grown : (texts others : List (List ℕ)) → others ≡ texts → IsGrown texts others
 none_grown texts others e = record { more = []; is = e ∙ sym (append-nil texts) }
+
+-- cut to its old length it is the old one
+pub cut_back : (old new : List (List ℕ)) (before : ℕ) → IsGrown old new → before ≡ length old → take before new ≡ old
+cut_back old new before grown same = ap (λ n. take n new) same ∙ (ap (take (length old)) grown.is ∙ take-append_seam old grown.more)
 
 pub grown_then : (old mid new : List (List ℕ)) → IsGrown old mid → IsGrown mid new → IsGrown old new
 grown_then old mid new first second = record { more = first.more ++ second.more; is = second.is ∙ (ap (λ these. these ++ second.more) first.is ∙ append_assoc old first.more second.more) }

@@ -1,5 +1,7 @@
 //! The calls of a fiber, with their operands evaluated.
 
+ghost use Rattle.std.specs.Prelude.{◌≡◌};
+
 use eio_value::{Operands, Outcome, Raised, TextId, Value};
 use script_lang::{Forking, Group, ObjectCall, ObjectCallWith, PathCall, ReaderCall};
 
@@ -159,4 +161,52 @@ pub enum Ask {
     },
     /// The end of the fiber.
     End(Outcome),
+}
+
+impl Ask {
+    /// A fork into a switch.
+    pub(crate) fn forking(forking: Forking, switch: u64, body: u32) -> Ask
+        ensures { result ≡ Ask.Fork forking switch body }
+    {
+        Ask::Fork {
+            forking,
+            switch,
+            body,
+        }
+    }
+
+    /// A call on an object with an operand.
+    pub(crate) fn on_object(call: ObjectCallWith, object: u32, operand: Value) -> Ask
+        ensures { result ≡ Ask.OnObjectWith call object operand }
+    {
+        Ask::OnObjectWith {
+            call,
+            object,
+            operand,
+        }
+    }
+
+    /// A job for an executor, given the values of what it captures.
+    pub(crate) fn submitting(executor: u32, weight: u8, given: Operands, job: u32) -> Ask
+        ensures { result ≡ Ask.Submit executor weight given job }
+    {
+        Ask::Submit {
+            executor,
+            weight,
+            given,
+            job,
+        }
+    }
+
+    /// A file that is written whole.
+    pub(crate) fn saving(only_new: bool, place: Place, path: TextId, content: TextId) -> Ask
+        ensures { result ≡ Ask.Save only_new place path content }
+    {
+        Ask::Save {
+            only_new,
+            place,
+            path,
+            content,
+        }
+    }
 }

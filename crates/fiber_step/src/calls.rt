@@ -84,14 +84,7 @@ pub(crate) fn call_with_job(script: &Script, number: u32, variables: &Scope) -> 
             after,
         } => {
             let switch = variables.number(*switch);
-            (
-                Ask::Fork {
-                    forking: *forking,
-                    switch,
-                    body: *body,
-                },
-                *after,
-            )
+            (Ask::forking(*forking, switch, *body), *after)
         }
         Node::OnRelease {
             switch,
@@ -99,13 +92,8 @@ pub(crate) fn call_with_job(script: &Script, number: u32, variables: &Scope) -> 
             after,
         } => {
             let switch = variables.number(*switch);
-            (
-                Ask::OnRelease {
-                    switch,
-                    handler: *handler,
-                },
-                *after,
-            )
+            let handler = *handler;
+            (Ask::OnRelease { switch, handler }, *after)
         }
         Node::Submit {
             executor,
@@ -115,22 +103,12 @@ pub(crate) fn call_with_job(script: &Script, number: u32, variables: &Scope) -> 
             after,
         } => {
             let given = values_of(captured.as_slice(), variables);
-            (
-                Ask::Submit {
-                    executor: *executor,
-                    weight: *weight,
-                    given,
-                    job: *job,
-                },
-                *after,
-            )
+            (Ask::submitting(*executor, *weight, given, *job), *after)
         }
         _ => return None,
     };
-    Some(Stepped {
-        step: Step::Calls(call),
-        after,
-    })
+    let step = Step::Calls(call);
+    Some(Stepped { step, after })
 }
 
 /// The values of some slots.

@@ -50,65 +50,33 @@ impl Fiber {
         ensures err { OnErr result (self.new ≡ self.old) }
     {
         let keep = self.variables().len();
+        let named = Value::Int(number as i64);
         match *ask {
-            Ask::Sub { body } => self.go_into_with(
-                Value::Ctx(number),
-                Mark::Leave {
-                    context: number,
-                    late: false,
-                    keep,
-                },
-                body,
-            ),
-            Ask::Protect { body } => self.go_into(
-                Mark::Leave {
-                    context: number,
-                    late: false,
-                    keep,
-                },
-                body,
-            ),
-            Ask::Switch { body } => self.go_into_with(
-                Value::Switch(number),
-                Mark::Close {
-                    switch: number,
-                    keep,
-                },
-                body,
-            ),
-            Ask::OnRelease { handler, .. } => self.go_into(
-                Mark::Leave {
-                    context: number,
-                    late: true,
-                    keep,
-                },
-                handler,
-            ),
-            Ask::Branches { form, .. } => self.go_into(
-                Mark::Join {
-                    group: number,
-                    keep,
-                },
-                own_branch(script, form),
-            ),
-            Ask::OpenReader { body, .. } => self.go_into_with(
-                Value::Int(number as i64),
-                Mark::ShutReader {
-                    reader: number,
-                    keep,
-                },
-                body,
-            ),
-            Ask::OpenWriter { body, .. } => self.go_into_with(
-                Value::Int(number as i64),
-                Mark::ShutWriter {
-                    writer: number,
-                    keep,
-                },
-                body,
-            ),
+            Ask::Sub { body } => {
+                self.go_into_with(Value::Ctx(number), Mark::leaving(number, false, keep), body)
+            }
+            Ask::Protect { body } => self.go_into(Mark::leaving(number, false, keep), body),
+            Ask::OnRelease { handler, .. } => {
+                self.go_into(Mark::leaving(number, true, keep), handler)
+            }
+            Ask::Switch { body } => {
+                let switch = number;
+                self.go_into_with(Value::Switch(switch), Mark::Close { switch, keep }, body)
+            }
+            Ask::Branches { form, .. } => {
+                let group = number;
+                self.go_into(Mark::Join { group, keep }, own_branch(script, form))
+            }
+            Ask::OpenReader { body, .. } => {
+                let reader = number;
+                self.go_into_with(named, Mark::ShutReader { reader, keep }, body)
+            }
+            Ask::OpenWriter { body, .. } => {
+                let writer = number;
+                self.go_into_with(named, Mark::ShutWriter { writer, keep }, body)
+            }
             Ask::OpenDirectory { body, .. } => {
-                self.go_into_with(Value::Int(number as i64), Mark::Cut { keep }, body)
+                self.go_into_with(named, Mark::Cut { keep }, body)
             }
             _ => Ok(()),
         }

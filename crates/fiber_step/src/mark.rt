@@ -5,6 +5,7 @@ ghost use Rattle.fiber_step.specs.Standing.{ask_of, Ends, failed_in, value_in, u
 ghost use Rattle.fiber_step.specs.Stepping.{HasBodiesOf};
 ghost use Rattle.fiber_step.specs.Unwinding.{stops};
 ghost use Rattle.script_lang.specs.declared.node.Node.{Node};
+ghost use Rattle.step_model.specs.Asks as model;
 
 use crate::ask::Ask;
 use eio_value::{Outcome, Raised, Value};
@@ -122,6 +123,42 @@ fn given(came: &Outcome) -> Value
     }
 }
 
+/// The end of a block of a context.
+fn leaving(context: u32, late: bool, came: &Outcome) -> Ask
+    ensures call { (nodes : List Node) → ask_of nodes result ≡ model.Leave context late came.now }
+    ensures bodies { (nodes : List Node) → HasBodiesOf nodes result }
+{
+    Ask::Leave {
+        context,
+        late,
+        outcome: *came,
+    }
+}
+
+/// The end of a switch, or of one of its handlers, with the value of the switch's body.
+fn closing(switch: u32, came: &Outcome, kept: Value) -> Ask
+    ensures call { (nodes : List Node) → ask_of nodes result ≡ model.Close switch (failed_in came.now) kept }
+    ensures bodies { (nodes : List Node) → HasBodiesOf nodes result }
+{
+    Ask::Close {
+        switch,
+        failed: failed(came),
+        kept,
+    }
+}
+
+/// The end of a block that ran with a resource.
+fn putting(pool: u32, resource: u32, came: &Outcome) -> Ask
+    ensures call { (nodes : List Node) → ask_of nodes result ≡ model.PutEnd pool resource came.now }
+    ensures bodies { (nodes : List Node) → HasBodiesOf nodes result }
+{
+    Ask::PutEnd {
+        pool,
+        resource,
+        outcome: *came,
+    }
+}
+
 /// The end of a block that ran with a mutex.
 fn unlocking(mutex: u32, came: &Outcome) -> Ask
     ensures call { (nodes : List Node) → ask_of nodes result ≡ unlocked mutex came.now }
@@ -159,6 +196,17 @@ impl End {
 }
 
 impl Mark {
+    /// The end of a block of a context, which keeps so many slots.
+    pub(crate) fn leaving(context: u32, late: bool, keep: usize) -> Mark
+        ensures { result ≡ Mark.Leave context late keep }
+    {
+        Mark::Leave {
+            context,
+            late,
+            keep,
+        }
+    }
+
     /// The call that is made where an end mark is come to with a value or an exception. Other items make none at once.
     #[tactic(auto, using(crate::proofs::Ends::makes_none, crate::proofs::Ends::leave_ends, crate::proofs::Ends::close_ends, crate::proofs::Ends::closing_ends, crate::proofs::Ends::join_ends, crate::proofs::Ends::reader_ends, crate::proofs::Ends::writer_ends, crate::proofs::Ends::unlock_ends, crate::proofs::Ends::put_ends, crate::proofs::Ends::resolve_ends, crate::proofs::Ends::has_none))]
     pub fn end(&self, came: &Outcome) -> Option<End>
@@ -171,27 +219,11 @@ impl Mark {
                 context,
                 late,
                 keep,
-            } => End::keeping(
-                keep,
-                Ask::Leave {
-                    context,
-                    late,
-                    outcome,
-                },
-            ),
-            Mark::Close { switch, keep } => End::keeping(
-                keep,
-                Ask::Close {
-                    switch,
-                    failed: failed(came),
-                    kept: given(came),
-                },
-            ),
-            Mark::Closing { switch, kept } => End::keeping_all(Ask::Close {
-                switch,
-                failed: failed(came),
-                kept,
-            }),
+            } => End::keeping(keep, leaving(context, late, came)),
+            Mark::Close { switch, keep } => {
+                End::keeping(keep, closing(switch, came, given(came)))
+            }
+            Mark::Closing { switch, kept } => End::keeping_all(closing(switch, came, kept)),
             Mark::Join { group, keep } => End::keeping(
                 keep,
                 Ask::Join {
@@ -210,14 +242,7 @@ impl Mark {
                 pool,
                 resource,
                 keep,
-            } => End::keeping(
-                keep,
-                Ask::PutEnd {
-                    pool,
-                    resource,
-                    outcome,
-                },
-            ),
+            } => End::keeping(keep, putting(pool, resource, came)),
             Mark::Resolve { promise } => End::keeping_all(Ask::ResolveEnd { promise, outcome }),
             _ => None,
         }

@@ -32,15 +32,7 @@ pub(crate) fn call_with_operands(
         }
         Node::OnObjectWith { call, object } => {
             let given = evaluate(script, number + 1, variables)?;
-            let operand = given.value;
-            (
-                Ask::OnObjectWith {
-                    call,
-                    object,
-                    operand,
-                },
-                given.behind,
-            )
+            (Ask::on_object(call, object, given.value), given.behind)
         }
         Node::Sleep => {
             let time = evaluate_number(script, number + 1, variables)?;
@@ -95,12 +87,8 @@ pub(crate) fn call_on_path(
         } => {
             let named = evaluate_text(script, number + 1, variables)?;
             let saved = evaluate_text(script, named.behind, variables)?;
-            let call = Ask::Save {
-                only_new,
-                place: place(directory, variables),
-                path: named.text,
-                content: saved.text,
-            };
+            let place = place(directory, variables);
+            let call = Ask::saving(only_new, place, named.text, saved.text);
             (call, saved.behind)
         }
         _ => return Ok(None),

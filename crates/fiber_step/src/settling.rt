@@ -150,9 +150,36 @@ impl Fiber {
     /// Goes on with what came, a value or an exception, up to the next call, or to its end, which is a call too.
     ///
     /// # Errors
-    /// [`NoMemory`] where memory runs out, or the numbers of raises (of 64 bits) or of texts (of 32). Then the fiber and the
-    /// number are as they were; a text that was caught may stay in the table.
+    /// [`NoMemory`] where memory runs out, or the numbers of raises (of 64 bits) or of texts (of 32). Then the fiber, the
+    /// number and the table are as they were.
     pub fn settle(
+        &mut self,
+        script: &Script,
+        texts: &mut Texts,
+        serial: &mut u64,
+        came: &Outcome,
+    ) -> Result<Ask, NoMemory>
+        requires items { ArePlaced (nodes_of script.now) self.old.items }
+        requires texts { length script.now.texts ≤ length texts.old }
+        requires came { HasTextsOfOutcome texts.old came.now }
+        ensures settled { IfOk result (λ call. SettlesTo (nodes_of script.now) came.now self.old (shared_by texts.old serial.old) call self.new (shared_by texts.new serial.new)) }
+        ensures items { OnOk result (ArePlaced (nodes_of script.now) self.new.items) }
+        ensures bodies { IfOk result (λ call. HasBodiesOf (nodes_of script.now) call) }
+        ensures grown { IsGrown texts.old texts.new }
+        ensures fiber { OnErr result (self.new ≡ self.old) }
+        ensures serial { OnErr result (serial.new ≡ serial.old) }
+        ensures texts { OnErr result (texts.new ≡ texts.old) }
+    {
+        let before = texts.len();
+        let Ok(call) = self.settle_by_draft(script, texts, serial, came) else {
+            texts.truncate(before);
+            return Err(NoMemory);
+        };
+        Ok(call)
+    }
+
+    /// The same, but that after [`NoMemory`] the texts are still in the table that were put in before it.
+    fn settle_by_draft(
         &mut self,
         script: &Script,
         texts: &mut Texts,

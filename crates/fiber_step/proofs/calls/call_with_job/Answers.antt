@@ -14,9 +14,9 @@ pub returns : goal.returns
 returns c =
     let knows = knows_node _ _ _ _ c.requires c.node.ensures.node c.node.ensures.stands c.node.ensures.text in
     elim c.match-node.branch [
-      | in-Fork w ↦ fork_step _ _ _ _ _ _ _ _ _ _ _ _ knows w.in-Fork.is w.number-switch.ensures (ap (λ it. it.0) w.call-is) (ap (λ it. it.1) w.call-is)
+      | in-Fork w ↦ fork_step _ _ _ _ _ _ _ _ _ _ _ _ knows w.in-Fork.is w.number-switch.ensures (ap (λ it. it.0) w.call-is ∙ w.forking.ensures) (ap (λ it. it.1) w.call-is)
       | in-OnRelease w ↦ on_release_step _ _ _ _ _ _ _ _ _ _ _ knows w.in-OnRelease.is w.number-switch-in-OnRelease.ensures (ap (λ it. it.0) w.call-is) (ap (λ it. it.1) w.call-is)
-      | in-Submit w ↦ submit_step _ _ _ _ _ _ _ _ _ _ _ _ _ knows w.in-Submit.is (w.values_of-given.ensures ∙ ap (λ slots. map (value_at c.args.variables.now) slots) w.as_slice.ensures) (ap (λ it. it.0) w.call-is) (ap (λ it. it.1) w.call-is)
+      | in-Submit w ↦ submit_step _ _ _ _ _ _ _ _ _ _ _ _ _ knows w.in-Submit.is (w.values_of-given.ensures ∙ ap (λ slots. map (value_at c.args.variables.now) slots) w.as_slice.ensures) (ap (λ it. it.0) w.call-is ∙ w.submitting.ensures) (ap (λ it. it.1) w.call-is)
     ]
 
 pub values_of-given-requires : goal.values_of-given-requires

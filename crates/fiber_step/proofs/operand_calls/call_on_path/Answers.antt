@@ -71,6 +71,6 @@ returns c =
       | in-Save+in_ok-named-in-Save+in_ok-saved-in-Save w ↦
           let first = w.in_ok-named-in-Save.ensures in
           save_step _ _ _ _ _ _ _ _ _ _ _ _ knows w.in-Save.is first.value
-          (w.in_ok-saved-in-Save.ensures.value ∙ ap (λ k. text_of c.args.variables.now (expression_at (nodes_of c.args.script.now) k)) first.behind) w.place.ensures
-          (ap (λ it. it.0) w.call-is) (ap (λ it. it.1) w.call-is ∙ (w.in_ok-saved-in-Save.ensures.behind ∙ ap (λ k. behind_expression (nodes_of c.args.script.now) k) first.behind))
+          (w.in_ok-saved-in-Save.ensures.value ∙ ap (λ k. text_of c.args.variables.now (expression_at (nodes_of c.args.script.now) k)) first.behind) w.place-place-in-Save.ensures
+          (ap (λ it. it.0) w.call-is ∙ w.saving-call.ensures) (ap (λ it. it.1) w.call-is ∙ (w.in_ok-saved-in-Save.ensures.behind ∙ ap (λ k. behind_expression (nodes_of c.args.script.now) k) first.behind))
     ]

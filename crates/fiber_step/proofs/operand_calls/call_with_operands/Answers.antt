@@ -84,7 +84,7 @@ returns c =
     let knows = knows_node _ _ _ _ c.requires c.node.ensures.node c.node.ensures.stands c.node.ensures.text in
     elim c.match-node.branch [
       | in-Trace+in_ok-traced-in-Trace w ↦ trace_step _ _ _ _ _ _ _ _ _ knows w.in-Trace.is w.in_ok-traced-in-Trace.ensures.values (ap (λ it. it.0) w.call-is) (ap (λ it. it.1) w.call-is ∙ w.in_ok-traced-in-Trace.ensures.behind)
-      | in-OnObjectWith+in_ok-given-in-OnObjectWith w ↦ on_object_with_step _ _ _ _ _ _ _ _ _ _ knows w.in-OnObjectWith.is w.in_ok-given-in-OnObjectWith.ensures.value (ap (λ it. it.0) w.call-is) (ap (λ it. it.1) w.call-is ∙ w.in_ok-given-in-OnObjectWith.ensures.behind)
+      | in-OnObjectWith+in_ok-given-in-OnObjectWith w ↦ on_object_with_step _ _ _ _ _ _ _ _ _ _ knows w.in-OnObjectWith.is w.in_ok-given-in-OnObjectWith.ensures.value (ap (λ it. it.0) w.call-is ∙ w.on_object.ensures) (ap (λ it. it.1) w.call-is ∙ w.in_ok-given-in-OnObjectWith.ensures.behind)
       | in-Sleep+in_ok-time-in-Sleep w ↦
           let fits : FitsSigned w64 w.in_ok-time-in-Sleep.time.number = search rules in
           sleep_step _ _ _ _ _ _ _ _ knows w.in-Sleep.is w.in_ok-time-in-Sleep.ensures.value (ap (λ it. it.0) w.call-is ∙ ap (λ z. ask.Sleep z) (to_z-of_z w64 _ fits)) (ap (λ it. it.1) w.call-is ∙ w.in_ok-time-in-Sleep.ensures.behind)

@@ -1,16 +1,10 @@
-use Rattle.std.proofs.Common.{◌≡◌, ◌∙◌, sym, ap, subst}
-use Rattle.script_lang.specs.Flat.{nodes_of}
-use Rattle.fiber_step.specs.Drafting.{Drafted, changed}
-use Rattle.fiber_step.specs.Settling.{SettlesTo}
-use Rattle.fiber_step.specs.Throwing.{shared_by}
+-- Where memory runs out the table is cut to its old length, and so is the old one.
+use Rattle.std.proofs.Common.{◌∙◌}
+use Rattle.fiber_step.proofs.Throws.{cut_back, none_grown}
 use Rattle.fiber_step.proofs.fiber.Fiber.settle.Goals as goal
 
-pub returns-clause-settled : goal.returns-clause-settled
-returns-clause-settled c =
-    let shared = shared_by c.args.texts.now c.args.serial.now in
-    let later = shared_by c.settle.new.texts c.settle.new.serial in
-    let made = c.new-draft.ensures in
-    let first = subst (λ (d : Drafted). SettlesTo (nodes_of c.args.script.now) c.args.came.now d.now shared c.in_ok-call.call c.settle.new.self.now later) made c.in_ok-call.ensures.settled in
-    let same = sym (c.in_ok-call.ensures.fiber ∙ ap (λ (d : Drafted). d.fiber) made) in
-    let kept : c.keep.new.self ≡ c.settle.new.self.now = c.in_ok-keep.ensures.ok ∙ (ap (λ k. changed k c.changes-changes.result) same ∙ c.changes-changes.ensures) in
-    subst (λ k. SettlesTo (nodes_of c.args.script.now) c.args.came.now c.args.self.now shared c.in_ok-call.call k later) (sym kept) first
+pub returns-in_default-clause-texts : goal.returns-in_default-clause-texts
+returns-in_default-clause-texts c = c.truncate.ensures ∙ cut_back _ _ _ c.in_default.ensures.grown c.len-before.ensures.length
+
+pub returns-in_default-clause-grown : goal.returns-in_default-clause-grown
+returns-in_default-clause-grown c = none_grown _ _ (c.truncate.ensures ∙ cut_back _ _ _ c.in_default.ensures.grown c.len-before.ensures.length)
