@@ -1,0 +1,10 @@
+pub mod Later
+pub mod Texts
+pub mod Variables
+pub mod Evaluating
+pub mod Going
+pub mod Statements
+pub mod Settling
+pub mod Jobs
+pub mod Between
+pub mod Rows
