@@ -1,0 +1,201 @@
+-- A turn: what was told becomes a line, and what is kept stands for the domain behind it.
+use Rattle.std.proofs.Common.{◌≡◌, inl, ℕ, ◌+◌, ◌<◌, ◌≤◌, Bool, true, false, List, [], ◌∷◌, Option, Some, None, refl, ap, ap₂, ◌∙◌, sym, subst, true≢false, arith}
+use Rattle.std.specs.List.{Contains}
+use Rattle.std.proofs.lemmas.List.{append-nil}
+use Rattle.std.proofs.lemmas.Option.{none-some, same_Some}
+use Rattle.eio_value.specs.declared.call.Answered.{Answered}
+use Rattle.eio_value.specs.declared.call.Call.{Call}
+use Rattle.eio_value.specs.declared.call.Struck.{Struck}
+use Rattle.eio_value.specs.declared.message.Message.{Message}
+use Rattle.eio_value.specs.declared.message.Message.TheVariants as message
+use Rattle.eio_value.specs.declared.message.Waiter.{Waiter}
+use Rattle.eio_value.specs.declared.mock_call.Extra.{Extra}
+use Rattle.eio_value.specs.declared.mock_call.MockCall.{MockCall}
+use Rattle.eio_value.specs.Fitting.{Bounds, Submit, FitsMessage}
+use Rattle.eio_value.specs.Waits.{Open, IsForOpen}
+use Rattle.row_model.specs.ReadyList.{pop}
+use Rattle.script_lang.specs.Flat.{nodes_of}
+use Rattle.script_laws.specs.FirstForms.{HasFirstForms}
+use Rattle.script_model.specs.Scripts.{Script}
+use Rattle.trace_out.specs.declared.line.Did.{Did}
+use Rattle.trace_out.specs.declared.line.Line.{Line}
+use Rattle.trace_out.specs.declared.line.Said2.{Said2}
+use Rattle.machine_model.specs.Asking.{asks_by}
+use Rattle.machine_model.specs.Domain.{DomainState, fiber_at}
+use Rattle.machine_model.specs.Labels.{Inner, Idle}
+use Rattle.machine_model.specs.Moves.{asks, after, line_of, own_move, counted_as}
+use Rattle.machine_model.specs.Preparing.{Owes, Rests, Ticks, Prepared, prepared, at_once, moves, prepared_ready, prepared_timers}
+use Rattle.machine_model.specs.Runs.{Noted, DomainMoves}
+use Rattle.machine_model.specs.Steps.{Step}
+use Rattle.domain_core.specs.declared.told.Told.{Told}
+use Rattle.domain_core.specs.Answering.{SameCounts, Tells}
+use Rattle.domain_core.specs.FirstLaws.{KeepsFirst}
+use Rattle.domain_core.specs.FirstStates.{IsFirstState}
+use Rattle.domain_core.specs.Keeping.{KeptDomain}
+use Rattle.domain_core.specs.Mirrors.{Mirrors}
+use Rattle.domain_core.specs.Moving.{with_head, MovesOwn}
+use Rattle.domain_core.specs.Objects.{AreFor}
+use Rattle.domain_core.specs.Turns as turns
+use Rattle.domain_core.specs.Turns.{StandsFor, StandsForSome}
+use Rattle.domain_core.specs.declared.turn.Turn.TheVariants.{Moved}
+use Rattle.domain_core.proofs.FirstChildless.{none_stands}
+use Rattle.domain_core.proofs.FirstKept.{keeps_first}
+
+-- ## The look for a message
+
+-- none comes where nobody waits and nothing was submitted
+pub no_message : (bounds : Bounds) (is_open : Open) (found : Option Message) → IsForOpen is_open found → FitsMessage bounds found
+    → ((who : Waiter) → is_open who ≡ false) → bounds.submits ≡ [] → found ≡ None
+no_message bounds is_open None waited fits closed none = refl
+no_message bounds is_open (Some (message.Resume who given stamp)) waited fits closed none = absurd (true≢false (sym waited ∙ closed who))
+no_message bounds is_open (Some (message.Start job number stamp)) waited fits closed none = (
+    let it : Submit = record { executor = job.executor; node = job.node; count = job.count } in
+    let there : Contains [] it = subst (λ (xs : List Submit). Contains xs it) none fits.submit in
+    let below : there.0 < 0 = there.1 in
+    absurd (omega (arith, below)))
+
+-- ## Nothing to do
+
+-- nobody is ready, and so nothing is done next
+pub rests : (l : DomainState) → IsFirstState l → l.ready ≡ [] → asks l ≡ Idle
+unfolding asks prepared
+rests l first none = (
+    let there : prepared l ≡ at_once Rests l =
+    ap (λ ds. elim ds as (λ _. Prepared) [ [] ↦ prepared_ready l | duty ∷ rest ↦ at_once (Owes duty) (record l { duties = rest }) ]) first.owes
+    ∙ (ap (λ rs. elim rs as (λ _. Prepared) [ [] ↦ prepared_timers l | h ∷ rest ↦ moves h (fiber_at l.fibers h) (record l { ready = rest }) ]) none
+    ∙ ap (λ ts. elim ts as (λ _. Prepared) [ [] ↦ at_once Rests l | timer ∷ rest ↦ at_once Ticks l ]) first.sleeps) in
+    ap asks_by there)
+
+-- nobody stood in the ready list, or this fiber stood first
+pub none_popped : (ready : List ℕ) → (pop ready).fiber ≡ None → ready ≡ []
+none_popped [] is = refl
+none_popped (g ∷ others) is = absurd (none-some _ (sym is))
+
+pub one_popped : (ready : List ℕ) (g : ℕ) → (pop ready).fiber ≡ Some g → ready ≡ g ∷ (pop ready).others
+one_popped [] g is = absurd (none-some _ is)
+one_popped (h ∷ others) g is = ap (λ (n : ℕ). n ∷ others) (same_Some _ _ is)
+
+-- where it was empty the domain is as it was
+pub same_popped : (view old : KeptDomain) (ready : List ℕ) → ready ≡ view.ready → view ≡ old → record view { ready = ready } ≡ old
+same_popped view old ready e is = ap (λ (xs : List ℕ). record view { ready = xs }) e ∙ is
+
+-- ## The line
+
+same_line : (stamp : ℕ) (number domain : ℕ) (fiber other : ℕ) (it other_did : Did) (reply other_reply : Said2) → number ≡ domain → fiber ≡ other → it ≡ other_did → reply ≡ other_reply
+    → ◌≡◌ {A = Line} (record { stamp = stamp; domain = number; fiber = fiber; did = it; reply = reply }) (record { stamp = stamp; domain = domain; fiber = other; did = other_did; reply = other_reply })
+same_line stamp number domain fiber other it other_did reply other_reply e f g h =
+    ap₂ (λ (d b : ℕ). record { stamp = stamp; domain = d; fiber = b; did = it; reply = reply }) e f
+    ∙ ap₂ (λ (d : Did) (r : Said2). record { stamp = stamp; domain = domain; fiber = other; did = d; reply = r }) g h
+
+module _
+    {O : Type 0}
+    (calls : O → Waiter → Bool → ℕ → ℕ → Call → Answered → O → Type 0)
+    (strikes : O → Waiter → ℕ → Struck → O → Type 0)
+    (receives : O → Option Message → O → Type 0)
+    (extras : O → List (List ℕ) → MockCall → ℕ → Extra → List (List ℕ) → O → Type 0)
+    (learns : O → List (List ℕ) → O → Type 0)
+    (script : Script) (built : HasFirstForms script) (old_texts texts : List (List ℕ)) (old : KeptDomain) (g : ℕ) (others : List ℕ) (is : old.ready ≡ g ∷ others)
+    (told : Told) (mid : KeptDomain)
+    (moved : (l : DomainState) → StandsFor script old_texts (with_head g (record old { ready = others })) l → MovesOwn script texts l told mid)
+    (same : SameCounts (record old { ready = others }) mid)
+    (runs : old.halted ≡ false) (before behind : O) (found : receives before None behind) where
+  -- the fiber that was taken stands first again
+  head_again : record old { ready = g ∷ others } ≡ old
+  head_again = ap (λ (xs : List ℕ). record old { ready = xs }) (sym is)
+
+  abbrev line : Line
+  line = record { stamp = mid.stamp + 1; domain = mid.number; fiber = told.fiber; did = told.did; reply = told.reply }
+
+  abbrev new : KeptDomain
+  new = record mid { stamp = mid.stamp + 1; lines = mid.lines + 1 }
+
+  abbrev noted : Noted
+  noted = record { line = line; label = Inner; away = None; from = 0 }
+
+  module _ (l : DomainState) (stands : StandsFor script old_texts old l) where
+    it : MovesOwn script texts l told mid
+    it = moved l (subst (λ (kept : KeptDomain). StandsFor script old_texts kept l) (sym head_again) stands)
+
+    same_stamp : mid.stamp ≡ l.stamp
+    same_stamp = same.stamp ∙ sym stands.mirrors.stamp
+
+    line_is : line ≡ line_of script l (mid.stamp + 1) Inner
+    unfolding line_of
+    line_is = same_line (mid.stamp + 1) mid.number l.number told.fiber (own_move script (prepared l)).fiber told.did (own_move script (prepared l)).did told.reply (own_move script (prepared l)).reply
+        (same.number ∙ sym stands.mirrors.number) (sym it.tells.fiber) (sym it.tells.did) (sym it.tells.reply)
+
+    domain_moves : DomainMoves script l noted (after script l (mid.stamp + 1) Inner)
+    domain_moves = record {
+      runs = stands.mirrors.halted ∙ runs;
+      fits = it.own;
+      later = omega (arith, same_stamp);
+      told = line_is;
+      next = refl;
+    }
+
+    counted : Mirrors (nodes_of script) texts new (after script l (mid.stamp + 1) Inner)
+    unfolding after
+    counted = (let step : Mirrors (nodes_of script) texts mid (own_move script (prepared l)).state = it.becomes in record {
+      number = step.number;
+      count = step.count;
+      fibers = step.fibers;
+      came = step.came;
+      ready = step.ready;
+      contexts = step.contexts;
+      switches = step.switches;
+      texts = step.texts;
+      serial = step.serial;
+      stamp = refl;
+      lines = ap (λ (n : ℕ). n + 1) step.lines;
+      halted = step.halted;
+    })
+
+    pub moves_to : (k : DomainState) × StandsFor script texts new k × turns.MadeLine calls strikes receives extras learns script l line k before behind
+    moves_to = (
+      after script l (mid.stamp + 1) Inner,
+      record { mirrors = counted; first = keeps_first script l _ noted built stands.first refl domain_moves },
+      record {
+        label = Inner;
+        moves = domain_moves;
+        came = (
+          record {
+            between = behind;
+            looked = subst (λ duties. turns.Looked calls strikes receives extras learns duties before behind) (sym stands.first.owes) found;
+            learned = inl (it.texts, refl);
+          },
+          ap (λ (n : ℕ). n + 1) same_stamp,
+        );
+      },
+    )
+
+  pub turned : old.lines < old.budget → texts ≡ old_texts → turns.Turns calls strikes receives extras learns script (Moved line) old_texts texts old new before behind
+  turned few table = (
+    (runs, few),
+    ap (λ (n : ℕ). n + 1) same.lines,
+    same.budget,
+    same.mocked,
+    record { more = []; is = table ∙ sym (append-nil old_texts) },
+    moves_to,
+  )
+
+-- the same of what was seen of the domain before, of what the ready list was popped to, and of the line and the domain that came of it
+pub made_turn :
+    {O : Type 0}
+    (calls : O → Waiter → Bool → ℕ → ℕ → Call → Answered → O → Type 0)
+    (strikes : O → Waiter → ℕ → Struck → O → Type 0)
+    (receives : O → Option Message → O → Type 0)
+    (extras : O → List (List ℕ) → MockCall → ℕ → Extra → List (List ℕ) → O → Type 0)
+    (learns : O → List (List ℕ) → O → Type 0)
+    (script : Script) (old_texts texts : List (List ℕ)) (view old : KeptDomain) (g : ℕ) (ready : List ℕ) (told : Told) (mid : KeptDomain) (line : Line) (new : KeptDomain) (before behind : O)
+    → HasFirstForms script → view ≡ old → (pop view.ready).fiber ≡ Some g → ready ≡ (pop view.ready).others
+    → ((l : DomainState) → StandsFor script old_texts (with_head g (record view { ready = ready })) l → MovesOwn script texts l told mid)
+    → SameCounts (record view { ready = ready }) mid → texts ≡ old_texts → view.halted ≡ false → view.lines < view.budget → receives before None behind
+    → line ≡ record { stamp = mid.stamp + 1; domain = mid.number; fiber = told.fiber; did = told.did; reply = told.reply }
+    → new ≡ record mid { stamp = mid.stamp + 1; lines = mid.lines + 1 }
+    → turns.Turns calls strikes receives extras learns script (Moved line) old_texts texts old new before behind
+made_turn calls strikes receives extras learns script old_texts texts view old g ready told mid line new before behind built is first others moves same table runs few found line_is new_is =
+    subst (λ (k : KeptDomain). turns.Turns calls strikes receives extras learns script (Moved line) old_texts texts k new before behind) is
+    (subst (λ (it : Line). turns.Turns calls strikes receives extras learns script (Moved it) old_texts texts view new before behind) (sym line_is)
+    (subst (λ (k : KeptDomain). turns.Turns calls strikes receives extras learns script (Moved (record { stamp = mid.stamp + 1; domain = mid.number; fiber = told.fiber; did = told.did; reply = told.reply })) old_texts texts view k before behind)
+    (sym new_is)
+    (turned calls strikes receives extras learns script built old_texts texts view g ready (one_popped view.ready g first ∙ ap (λ (xs : List ℕ). g ∷ xs) (sym others)) told mid moves same runs before behind found few table)))

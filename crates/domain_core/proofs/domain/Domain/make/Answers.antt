@@ -1,0 +1,29 @@
+use Rattle.std.proofs.Common.{◌≡◌, ◌∙◌, ap, sym, subst, length, refl}
+use Rattle.row_model.specs.Switches.{switch_at}
+use Rattle.switch_core.specs.Attaching.{IsAttached}
+use Rattle.domain_core.specs.Answering.{Lives, IsAttachedToNone}
+use Rattle.domain_core.specs.Mirrors.{Mirrors}
+use Rattle.step_model.specs.Replies.{begun}
+use Rattle.script_lang.specs.Standing.{block_at}
+use Rattle.domain_core.proofs.Making.{older_lives, new_lives, forks_mirrors}
+use Rattle.domain_core.proofs.domain.Domain.make.Goals as goal
+
+pub attach-requires-clause-apart : goal.attach-requires-clause-apart
+attach-requires-clause-apart c attached =
+    subst (λ kept. IsAttachedToNone kept (length kept.fibers)) (sym c.self.view_is) c.requires.apart c.args.switch
+    (subst (λ m. IsAttached m (switch_at c.self.inside.switches c.args.switch)) c.in_ok-new.ensures.number attached)
+
+pub returns-clause-lives : goal.returns-clause-lives
+returns-clause-lives c g lives = older_lives c.self.inside.fibers c.add.new.self _ g c.in_ok-new.ensures.ok (subst (λ kept. Lives kept g) (sym c.self.view_is) lives)
+
+pub returns-clause-new : goal.returns-clause-new
+returns-clause-new c = new_lives c.self.inside.fibers c.add.new.self _ c.in_ok-new.new c.in_ok-new.ensures.ok c.in_ok-new.ensures.number
+
+pub returns-clause-made : goal.returns-clause-made
+returns-clause-made c nodes has texts l mirrors =
+    forks_mirrors nodes texts _ l (subst (λ kept. Mirrors nodes texts kept l) (sym c.self.view_is) mirrors)
+    c.args.maker c.args.switch c.args.body c.in_ok-new.new c.context-context.result c.at.result.now c.at.ensures c.in_ok-frames.frames
+    c.in_ok-new.ensures.number c.context-context.ensures
+    (c.in_ok-frames.ensures.position nodes ∙ ap (begun (block_at nodes c.args.body)) (c.new.ensures ∙ (c.in_ok-values.ensures.items_if_clones_equal (λ x y e. e) ∙ (c.as_slice.ensures ∙ c.variables-variables.ensures))))
+    (c.in_ok-frames.ensures.items nodes has)
+    c.add.new.self c.attach.new.self c.in_ok-new.ensures.ok c.in_ok-attach.ensures.ok

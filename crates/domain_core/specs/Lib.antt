@@ -1,0 +1,11 @@
+pub mod Keyed
+pub mod Keeping
+pub mod Mirrors
+pub mod FirstForms
+pub mod FirstStates
+pub mod Turns
+pub mod Objects
+pub mod Answering
+pub mod Stepping
+pub mod Moving
+pub mod FirstLaws

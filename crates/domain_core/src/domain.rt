@@ -1,0 +1,146 @@
+//! A domain: its fibers, its ready list, its contexts and its switches.
+//!
+//! Contracts see what is kept of it (`KeptDomain`), which stands for a domain of the definitions (`StandsFor`). The theorem on a
+//! turn is the contract of [`Domain::turn`].
+
+ghost use Rattle.std.specs.Prelude.{◌≡◌, ◌<◌, ◌≤◌, ℕ, List, IfOk, length};
+ghost use Rattle.machine_model.specs.Mock as mock;
+ghost use Rattle.machine_model.specs.Trace as trace;
+ghost use Rattle.machine_model.specs.Domain.{DomainState};
+ghost use Rattle.script_lang.specs.declared.node.Node.{Node};
+ghost use Rattle.script_laws.specs.FirstForms.{HasFirstForms};
+ghost use Rattle.domain_core.specs.FirstStates.{IsFirstState};
+ghost use Rattle.domain_core.specs.Mirrors.{Mirrors};
+ghost use Rattle.domain_core.specs.Turns.{Starts};
+
+use crate::fibers::{Fibers, MOST_FIBERS};
+use crate::standing::Role;
+use cancel_tree::Contexts;
+use eio_value::{NoMemory, Outcome};
+use fiber_step::{Fiber as Frames, Variables, first_node};
+use run_queue::Ready;
+use script_lang::Script;
+use std::alloc::Global;
+use std::marker::Model;
+use switch_core::Switches;
+
+/// One domain of fibers.
+#[derive(Drop)]
+pub struct Domain {
+    pub(crate) alloc: Global,
+    pub(crate) number: u8,
+    pub(crate) fibers: Fibers,
+    /// What the body came to, once it has ended.
+    pub(crate) came: Option<Outcome>,
+    pub(crate) ready: Ready,
+    pub(crate) contexts: Contexts,
+    pub(crate) switches: Switches,
+    /// The number of the next raise.
+    pub(crate) serial: u64,
+    /// That of the last line.
+    pub(crate) stamp: u64,
+    /// How many lines were made, at most `budget`.
+    pub(crate) lines: u32,
+    pub(crate) budget: u32,
+    /// A limit was met.
+    pub(crate) halted: bool,
+    /// Its outside is mocked.
+    pub(crate) mocked: bool,
+}
+
+impl Model for Domain {
+    ghost use Rattle.std.specs.Prelude.{◌≡◌, ◌≤◌};
+    ghost use Rattle.domain_core.specs.Keeping.{KeptDomain};
+
+    ghost Value = { KeptDomain };
+
+    ghost view = { λ d. record {
+      number = d.number;
+      fibers = d.fibers;
+      came = d.came;
+      ready = d.ready.fibers;
+      contexts = d.contexts;
+      switches = d.switches;
+      serial = d.serial;
+      stamp = d.stamp;
+      lines = d.lines;
+      budget = d.budget;
+      halted = d.halted;
+      mocked = d.mocked;
+    } };
+
+    ghost invariant = { λ d. (d.ready.most ≡ 1024) × (d.budget ≤ 1000000) × (d.lines ≤ d.budget) };
+}
+
+impl Domain {
+    /// A domain whose body is about to run. The number of the domain is that of its body; it may make so many lines, at least one and at
+    /// most 1,000,000.
+    ///
+    /// # Errors
+    /// [`NoMemory`] where memory runs out.
+    pub fn start(
+        alloc: Global,
+        script: &Script,
+        body: u8,
+        budget: u32,
+        mocked: bool,
+    ) -> Result<Domain, NoMemory>
+        requires body { body < length script.now.bodies }
+        requires some { 0 < budget }
+        requires most { budget ≤ 1000000 }
+        requires built { HasFirstForms script.now }
+        ensures { IfOk result (Starts script.now body budget mocked) }
+    {
+        let mut fibers = Fibers::new(alloc)?;
+        let mut ready = Ready::new(alloc, MOST_FIBERS)?;
+        let mut contexts = Contexts::new(alloc)?;
+        let frames = Frames::new(
+            alloc,
+            first_node(script, body),
+            Variables::new(Vec::new(alloc)),
+        )?;
+        let Ok(root) = contexts.root() else {
+            unreachable!()
+        };
+        let main = fibers.add(root, Role::Body, frames)?;
+        if let Err(_) = ready.push_back(main) {
+            unreachable!()
+        }
+        Ok(Domain {
+            alloc,
+            number: body,
+            fibers,
+            came: None,
+            ready,
+            contexts,
+            switches: Switches::new(alloc),
+            serial: (body as u64) << 56,
+            stamp: 0,
+            lines: 0,
+            budget,
+            halted: false,
+            mocked,
+        })
+    }
+
+    /// Whether something is left to be done, a message aside: no limit was met, and a fiber can move.
+    pub fn can_move(&self) -> bool
+        ensures { (nodes : List Node) (texts : List (List ℕ)) (l : DomainState) → Mirrors nodes texts self.now l → IsFirstState l → result ≡ mock.can_move l }
+    {
+        !self.halted && !self.ready.is_empty()
+    }
+
+    /// What the body came to, if it has ended.
+    pub fn body_end(&self) -> Option<Outcome>
+        ensures { (nodes : List Node) (texts : List (List ℕ)) (l : DomainState) → Mirrors nodes texts self.now l → result ≡ trace.body_end l }
+    {
+        self.came
+    }
+
+    /// Whether a limit was met, so that the domain is halted.
+    pub fn met_limit(&self) -> bool
+        ensures { (nodes : List Node) (texts : List (List ℕ)) (l : DomainState) → Mirrors nodes texts self.now l → result ≡ l.halted }
+    {
+        self.halted
+    }
+}
