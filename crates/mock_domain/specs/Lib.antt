@@ -1,0 +1,4 @@
+pub mod Due
+pub mod Faults
+pub mod Objects
+pub mod Scripts

@@ -1,0 +1,19 @@
+//! The command `mock` over the engine: a script runs on one domain whose outside is mocked, and its trace is written as it comes.
+//!
+//! [`mock_run`] goes from a source's bytes to a sink's and a status. [`script`] makes the script of an input, or finds why it is refused;
+//! [`run`] turns a [`Domain`](domain_core::Domain) until it stands still, over the objects of [`local`]; [`respond`] joins these. Each says
+//! in its contract what the definitions of `machine_model` give.
+#![tactic(auto)]
+
+mod fault;
+mod local;
+mod mock;
+mod respond;
+mod run;
+mod script;
+#[cfg(test)]
+mod tests;
+mod trace;
+
+pub use local::{Declared, Local};
+pub use mock::mock_run;
