@@ -1,5 +1,5 @@
 -- `close` of a switch that has neither daemons nor handlers nor errors.
-use Rattle.std.proofs.Common.{◌≡◌, ℕ, Bool, true, false, ◌&&◌, List, [], ◌∷◌, Option, Some, None, refl, ap, ◌∙◌, sym, subst}
+use Rattle.std.proofs.Common.{◌≡◌, ℕ, Bool, true, false, ◌&&◌, List, [], ◌∷◌, Option, Some, None, refl, ap, ◌∙◌}
 use Rattle.eio_value.specs.declared.raised.Outcome.TheVariants as outcome
 use Rattle.eio_value.specs.declared.value.Value.{Value}
 use Rattle.trace_out.specs.declared.line.Did.TheVariants as did
@@ -14,7 +14,7 @@ use Rattle.machine_model.specs.Domain.{DomainState, ForOthers, Parked, GoesOn, s
 use Rattle.machine_model.specs.Moves.{own_call}
 use Rattle.machine_model.specs.Steps.{Step, told, halts}
 use Rattle.machine_model.specs.ContextMoves.{leaves}
-use Rattle.machine_model.specs.SwitchMoves.{closed_by, closes, close, with_switch_at}
+use Rattle.machine_model.specs.SwitchMoves.{closed_by, closes, with_switch_at}
 
 abbrev runs_by : List Handler → Bool
 runs_by due = elim due [ [] ↦ false | handler ∷ handlers ↦ true ]

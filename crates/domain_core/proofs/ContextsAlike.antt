@@ -1,7 +1,7 @@
 -- Contexts after one more call: what keeps all and what forgets the ended go on alike.
 use Rattle.std.proofs.Common.{◌≡◌, ℕ, Bool, true, false, List, [], ◌∷◌, ◌++◌, length, Option, Some, None, refl, ap, ap₂, ◌∙◌, sym, subst}
-use Rattle.row_model.specs.Contexts.{Context, Made, make, new_context, context_at, is_live, is_full, off, sub, end}
-use Rattle.row_model.specs.ContextCalls.{Contexts, ContextCall, no_contexts, called, after, Root, Sub, Protect, End}
+use Rattle.row_model.specs.Contexts.{Context, Made, make, context_at, is_live, is_full, off, sub, end}
+use Rattle.row_model.specs.ContextCalls.{Contexts, ContextCall, no_contexts, called, after, Sub, End}
 use Rattle.cancel_tree.specs.Forgetting.{left, left_after, MayCall, MayCallAll, AnswersAlike, ForgetsNothingLive}
 use Rattle.cancel_tree.specs.Ended.{left_by_end}
 use Rattle.cancel_tree.specs.Endings.{HasNoLiveChild}

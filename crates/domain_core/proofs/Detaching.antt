@@ -1,6 +1,5 @@
 -- A fiber that has ended leaves its switch.
-use Rattle.std.proofs.Common.{◌≡◌, ℕ, false, List, ◌++◌, ◌∷◌, [], Option, Some, None, refl, ap, ◌∙◌, sym, subst}
-use Rattle.std.specs.Prelude.{IsSome}
+use Rattle.std.proofs.Common.{◌≡◌, ℕ, false, List, Option, Some, None, refl, ap, ◌∙◌, sym, subst}
 use Rattle.std.specs.Option.{option_map}
 use Rattle.std.proofs.lemmas.Option.{none-some, same_Some}
 use Rattle.eio_value.specs.declared.raised.Outcome.TheVariants as outcome
@@ -16,7 +15,7 @@ use Rattle.domain_core.specs.declared.standing.Standing.{Standing}
 use Rattle.domain_core.specs.declared.standing.Standing.TheVariants as standing
 use Rattle.domain_core.specs.declared.standing.Next.TheVariants as next
 use Rattle.domain_core.specs.Keeping.{KeptDomain, kept_at}
-use Rattle.domain_core.specs.Mirrors.{next_of, standing_of, IsKept, Mirrors}
+use Rattle.domain_core.specs.Mirrors.{next_of, standing_of, Mirrors}
 use Rattle.domain_core.proofs.Mirroring.{switches_mirrors, is_fiber}
 
 -- what a fiber does that is woken, by how it stands

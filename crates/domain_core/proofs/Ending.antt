@@ -1,5 +1,5 @@
 -- A fiber has ended: what is kept of it goes, and the definition's stands as ended.
-use Rattle.std.proofs.Common.{◌≡◌, ◌≢◌, inl, inr, ℕ, ◌<◌, Bool, true, false, List, [], length, Option, Some, None, slice_set, refl, ap, ◌∙◌, sym, subst, arith}
+use Rattle.std.proofs.Common.{◌≡◌, ◌≢◌, inl, inr, ℕ, ◌<◌, Bool, false, List, [], length, Option, Some, None, slice_set, refl, ap, ◌∙◌, sym, subst, arith}
 use Rattle.eio_value.specs.declared.raised.Outcome.{Outcome}
 use Rattle.script_lang.specs.declared.node.Node.{Node}
 use Rattle.row_model.specs.Contexts.{end}
@@ -12,7 +12,6 @@ use Rattle.machine_model.specs.EndMoves.{ends_context, after_end, ends}
 use Rattle.machine_model.specs.SwitchMoves.{detached}
 use Rattle.domain_core.specs.declared.standing.Role.{Role}
 use Rattle.domain_core.specs.declared.standing.Role.TheVariants.{Body, Switched}
-use Rattle.machine_model.specs.Trace.{body_end}
 use Rattle.domain_core.specs.declared.fiber.Fiber.{Fiber}
 use Rattle.domain_core.specs.Answering.{Becomes, MayEndContext, MayEnd, MayEndAs}
 use Rattle.domain_core.specs.Keeping.{KeptDomain, kept_at}

@@ -3,7 +3,7 @@ use Rattle.std.proofs.Common.{◌≡◌, ◌⊎◌, inl, inr, ℕ, zero, suc, �
 use Rattle.std.specs.Prelude.{slice_get}
 use Rattle.std.specs.List.{Contains}
 use Rattle.std.proofs.lemmas.Option.{none-some, same_Some}
-use Rattle.row_model.specs.Contexts.{Context, context_at, is_live}
+use Rattle.row_model.specs.Contexts.{context_at, is_live}
 use Rattle.row_model.specs.Switches.{switch_at}
 use Rattle.machine_model.specs.Domain.{Role, OfBody, OfSwitch, DomainState, fiber_at, has_ended}
 use Rattle.domain_core.specs.FirstStates.{IsFirstState, IsFirstRole, Nests, OpensAt, base_of, open_switches}

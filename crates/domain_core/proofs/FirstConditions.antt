@@ -8,7 +8,7 @@ use Rattle.eio_value.specs.declared.value.Value.TheVariants as value
 use Rattle.row_model.specs.Contexts.{is_live}
 use Rattle.row_model.specs.Switches.{Handler, switch_at, due_batch}
 use Rattle.script_model.specs.Syntax as syntax
-use Rattle.script_model.specs.Syntax.{Statement, Expressions, Done, Then, Plain}
+use Rattle.script_model.specs.Syntax.{Done, Then, Plain}
 use Rattle.script_laws.specs.FirstForms.{AreFirst, IsFirst, IsFirstBlock}
 use Rattle.step_model.specs.Asks as ask
 use Rattle.step_model.specs.Asks.{Ask}
@@ -19,7 +19,7 @@ use Rattle.step_model.specs.Work.{Work, Run, Close, Carry}
 use Rattle.machine_model.specs.Domain.{Role, OfBody, OfSwitch, Next, GoesOn, LooksUp, CallsAgain, Fiber, DomainState, never_made, fiber_at, has_ended}
 use Rattle.machine_model.specs.Preparing.{next_call, carry_of}
 use Rattle.domain_core.specs.FirstForms.{AreFirstWork}
-use Rattle.domain_core.specs.FirstStates.{IsFirstState, IsFirstNext, IsFirstRole, IsOpened, Nests, OpensAt, base_of, open_switches}
+use Rattle.domain_core.specs.FirstStates.{IsFirstState, IsFirstNext, IsFirstRole, IsOpened, Nests, base_of, open_switches}
 use Rattle.domain_core.proofs.ByNumber as numbers
 use Rattle.domain_core.proofs.FirstCalling.{PreparesFirst, at_all}
 use Rattle.domain_core.proofs.FirstChildless.{none_stands}

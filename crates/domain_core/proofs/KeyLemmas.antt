@@ -1,11 +1,11 @@
 -- The fibers that are kept under keys, as the list by their numbers.
-use Rattle.std.proofs.Common.{◌≡◌, ◌≢◌, ◌⊎◌, inl, inr, ℕ, zero, suc, ◌+◌, ◌<◌, ◌≤◌, Bool, true, false, List, [], ◌∷◌, ◌++◌, length, map, slice_set, Option, Some, None, refl, ap, ap₂, ◌∙◌, sym, subst, cond, true≢false, arith}
+use Rattle.std.proofs.Common.{◌≡◌, ◌≢◌, ◌⊎◌, inl, inr, ℕ, zero, suc, ◌+◌, ◌<◌, ◌≤◌, Bool, true, List, [], ◌∷◌, ◌++◌, length, slice_set, Option, Some, None, refl, ap, ap₂, ◌∙◌, sym, subst, cond, true≢false, arith}
 use Rattle.std.specs.Prelude.{slice_get, slice_index_or, count_by, is_some, IsSome}
-use Rattle.std.specs.Option.{unwrap_or, option_map}
+use Rattle.std.specs.Option.{option_map}
 use Rattle.std.proofs.lemmas.Option.{none-some, same_Some}
 use Rattle.std.proofs.lemmas.List.Sums.{sum_by-cons}
 use Rattle.slab.proofs.SlabLemmas.{Updates-with_value}
-use Rattle.slab.specs.Slab.{Slab, get, slab_len, with_value, ContainsKey, Updates}
+use Rattle.slab.specs.Slab.{Slab, get, slab_len, with_value, Updates}
 use Rattle.domain_core.specs.declared.fiber.Fiber.{Fiber}
 use Rattle.domain_core.specs.Keeping.{kept_at, changed_at}
 use Rattle.fiber_step.specs.Kept.{Kept}

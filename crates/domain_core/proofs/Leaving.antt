@@ -1,19 +1,17 @@
 -- A context has ended, and its fiber runs again in the one above it.
-use Rattle.std.proofs.Common.{◌≡◌, ℕ, true, List, Option, Some, refl, ap, ◌∙◌, sym, subst}
-use Rattle.std.specs.Prelude.{IsSome}
+use Rattle.std.proofs.Common.{◌≡◌, ℕ, true, List, Option, ap, ◌∙◌, sym, subst}
 use Rattle.std.specs.Option.{unwrap_or}
 use Rattle.script_lang.specs.declared.node.Node.{Node}
 use Rattle.row_model.specs.Contexts.{Context, context_at, is_live, end}
 use Rattle.row_model.specs.ContextCalls.{Contexts}
 use Rattle.cancel_tree.specs.Ended.{left_by_end}
-use Rattle.cancel_tree.specs.Forgetting.{ForgetsNothingLive}
 use Rattle.cancel_tree.proofs.Forgotten.{forgets_nothing_live}
 use Rattle.machine_model.specs.Domain.{DomainState, moved_to}
 use Rattle.machine_model.specs.ContextMoves.{leaves}
 use Rattle.domain_core.specs.declared.fiber.Fiber.{Fiber}
 use Rattle.domain_core.specs.Answering.{Lives, MayEndContext}
 use Rattle.domain_core.specs.Keeping.{KeptDomain, kept_at, changed_at}
-use Rattle.domain_core.specs.Mirrors.{AreContexts, Mirrors}
+use Rattle.domain_core.specs.Mirrors.{Mirrors}
 use Rattle.domain_core.proofs.ContextsAlike.{live_alike, stands_alike, ended_alike}
 use Rattle.domain_core.proofs.Mirroring.{kept_there, contexts_mirrors, moved_mirrors}
 

@@ -1,7 +1,7 @@
 -- What is kept stands for a domain after each change that both make alike.
-use Rattle.std.proofs.Common.{◌≡◌, ◌≢◌, inl, inr, ℕ, zero, suc, ◌+◌, ◌<◌, ◌≤◌, Bool, true, false, not, List, [], ◌∷◌, ◌++◌, length, slice_set, Option, Some, None, refl, ap, ◌∙◌, sym, subst, true≢false, arith}
-use Rattle.std.specs.Prelude.{slice_get, IsSome}
-use Rattle.std.specs.Option.{unwrap_or, option_map}
+use Rattle.std.proofs.Common.{◌≡◌, inl, inr, ℕ, zero, suc, ◌<◌, Bool, true, false, List, [], ◌∷◌, ◌++◌, length, slice_set, Option, Some, None, refl, ap, ◌∙◌, sym, subst, true≢false, arith}
+use Rattle.std.specs.Prelude.{IsSome}
+use Rattle.std.specs.Option.{option_map}
 use Rattle.std.proofs.lemmas.Option.{none-some}
 use Rattle.eio_value.specs.declared.raised.Outcome.{Outcome}
 use Rattle.script_lang.specs.declared.node.Node.{Node}
@@ -14,7 +14,7 @@ use Rattle.domain_core.specs.declared.standing.Standing.TheVariants.{Ready, Park
 use Rattle.domain_core.specs.declared.standing.Next.{Next}
 use Rattle.machine_model.specs.Steps.{Step}
 use Rattle.domain_core.specs.declared.told.Told.{Told}
-use Rattle.domain_core.specs.Answering.{Lives, Tells}
+use Rattle.domain_core.specs.Answering.{Tells}
 use Rattle.domain_core.specs.Keeping.{KeptDomain, kept_at, changed_at}
 use Rattle.row_model.specs.ContextCalls.{Contexts}
 use Rattle.row_model.specs.Contexts.{Context}

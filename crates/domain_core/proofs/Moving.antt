@@ -1,12 +1,12 @@
 -- The call of the fiber that moves: what is asked for it holds between two moves, in the words of what is kept.
-use Rattle.std.proofs.Common.{◌≡◌, ◌≢◌, inl, inr, ℕ, ◌+◌, ◌-◌, ◌*◌, ◌^◌, ◌<◌, ◌≤◌, Bool, true, false, not, List, [], ◌∷◌, length, Option, Some, None, refl, ap, ◌∙◌, sym, subst, true≢false, arith}
+use Rattle.std.proofs.Common.{◌≡◌, ◌≢◌, inl, inr, ℕ, ◌+◌, ◌-◌, ◌^◌, ◌<◌, ◌≤◌, true, false, List, [], length, Option, Some, None, refl, ap, ◌∙◌, sym, subst, true≢false, arith}
 use Rattle.std.specs.Prelude.{count_by, is_some, IsSome, Result, Ok, Err, IfOk, OnOk}
 use Rattle.std.specs.List.{Contains}
 use Rattle.eio_value.specs.declared.raised.Outcome.{Outcome}
 use Rattle.eio_value.specs.declared.raised.Outcome.TheVariants as outcome
 use Rattle.eio_value.specs.declared.raised.Raised.{Raised}
 use Rattle.eio_value.specs.declared.value.Value.{Value}
-use Rattle.row_model.specs.Contexts.{is_live, off}
+use Rattle.row_model.specs.Contexts.{is_live}
 use Rattle.row_model.specs.Switches.{Switch, switch_at, due_batch}
 use Rattle.cancel_tree.proofs.Forgotten.{forgets_nothing_live}
 use Rattle.cancel_tree.specs.Endings.{HasNoLiveChild}
@@ -28,11 +28,10 @@ use Rattle.step_model.specs.Settling.{Settled}
 use Rattle.step_model.specs.Work.{Carry}
 use Rattle.machine_model.specs.Asking.{asks_for, asks_by, end_of}
 use Rattle.machine_model.specs.Domain as model_domain
-use Rattle.machine_model.specs.Domain.{OfBody, OfSwitch, Fiber, DomainState, fiber_at, has_ended, live_fibers, most_fibers}
+use Rattle.machine_model.specs.Domain.{OfBody, OfSwitch, Fiber, DomainState, fiber_at, has_ended, live_fibers}
 use Rattle.machine_model.specs.Labels.{Own}
 use Rattle.machine_model.specs.Moves.{asks, own_call, own_move}
 use Rattle.machine_model.specs.Preparing.{Prepared, Calls, prepared, next_call, carry_of}
-use Rattle.machine_model.specs.Steps.{Step}
 use Rattle.domain_core.specs.declared.fiber.Fiber.{Fiber as KeptFiber}
 use Rattle.domain_core.specs.declared.standing.Role.{Role}
 use Rattle.domain_core.specs.declared.standing.Role.TheVariants as role
@@ -50,8 +49,7 @@ use Rattle.domain_core.proofs.ByNumber as numbers
 use Rattle.domain_core.proofs.ContextsAlike.{count_alike, live_alike, off_alike, stands_alike}
 use Rattle.domain_core.proofs.Counting.{same_live}
 use Rattle.domain_core.proofs.FirstAlike.{live_same}
-use Rattle.domain_core.proofs.FirstCalling.{CallsFirst, PreparesFirst, prepares_first, none_off}
-use Rattle.domain_core.proofs.FirstChanges.{lives_below}
+use Rattle.domain_core.proofs.FirstCalling.{PreparesFirst, prepares_first, none_off}
 use Rattle.domain_core.proofs.FirstChildless.{switch_childless, body_childless}
 use Rattle.domain_core.proofs.FirstClosing.{open_here, switch_calm}
 use Rattle.domain_core.proofs.FirstConditions.{fork_few, unfinished_live, context_live, nobody_new, no_handlers}
@@ -59,7 +57,7 @@ use Rattle.domain_core.proofs.FirstCounting.{room_among_live, room_behind}
 use Rattle.domain_core.proofs.FirstSettling.{first_work_settles}
 use Rattle.domain_core.proofs.FirstStaying.{at_call, caller_at, caller_only}
 use Rattle.domain_core.proofs.FirstSwitching.{role_below}
-use Rattle.domain_core.proofs.Mirroring.{kept_there, is_fiber, tells_as, mirrors_as}
+use Rattle.domain_core.proofs.Mirroring.{is_fiber, tells_as, mirrors_as}
 
 -- a fiber that lives is kept
 kept_by : (nodes : List Node) (g : ℕ) (found : Option KeptFiber) (fiber : Fiber) → IsKept nodes g found fiber → has_ended fiber ≡ false → IsSome found

@@ -1,14 +1,11 @@
 -- The fiber that stood first in the ready list has come to its next call, on both sides.
 use Rattle.std.proofs.Common.{◌≡◌, ◌⊎◌, inl, inr, ℕ, zero, suc, List, [], ◌∷◌, slice_set, Option, Some, None, refl, ap, ap₂, ◌∙◌, sym, subst}
-use Rattle.std.specs.Prelude.{IsSome}
-use Rattle.std.specs.List.{Contains}
 use Rattle.eio_value.specs.declared.plain.Member.{Member}
 use Rattle.eio_value.specs.declared.raised.Outcome.TheVariants as outcome
 use Rattle.eio_value.specs.declared.value.Value.{Value}
 use Rattle.eio_value.specs.declared.value.Value.TheVariants as value
 use Rattle.fiber_step.specs.declared.ask.Ask.{Ask}
 use Rattle.fiber_step.specs.declared.ask.Ask.TheVariants as kept_ask
-use Rattle.fiber_step.specs.Kept.{Kept}
 use Rattle.fiber_step.specs.Standing.{ask_of, works_of}
 use Rattle.script_lang.specs.Flat.{nodes_of}
 use Rattle.script_lang.specs.declared.node.Node.{Node}
@@ -17,7 +14,7 @@ use Rattle.step_model.specs.Replies.{passed}
 use Rattle.step_model.specs.Settling.{Settled}
 use Rattle.step_model.specs.Work.{Work, Carry}
 use Rattle.machine_model.specs.Domain as model
-use Rattle.machine_model.specs.Domain.{Fiber, DomainState, never_made, fiber_at, has_ended}
+use Rattle.machine_model.specs.Domain.{Fiber, DomainState, never_made, fiber_at}
 use Rattle.machine_model.specs.Preparing.{Prepared, prepared, next_call, carry_of, called_by}
 use Rattle.domain_core.specs.declared.fiber.Fiber.{Fiber as KeptFiber}
 use Rattle.domain_core.specs.declared.standing.Closing.{Closing}

@@ -2,7 +2,6 @@
 use Rattle.std.proofs.Common.{◌≡◌, ℕ, zero, suc, ◌*◌, ◌^◌, ◌<◌, Bool, false, List, [], ◌∷◌, length, Option, Some, None, refl, ap, ap₂, ◌∙◌, sym, subst}
 use Rattle.std.specs.Prelude.{slice_get}
 use Rattle.std.specs.Option.{unwrap_or}
-use Rattle.eio_value.specs.declared.value.Value.{Value}
 use Rattle.row_model.specs.Contexts.{root}
 use Rattle.row_model.specs.ContextCalls.{Contexts, Root, no_contexts, called, after}
 use Rattle.row_model.specs.Switches.{Switch}

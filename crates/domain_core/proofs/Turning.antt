@@ -1,5 +1,5 @@
 -- A turn: what was told becomes a line, and what is kept stands for the domain behind it.
-use Rattle.std.proofs.Common.{◌≡◌, inl, ℕ, ◌+◌, ◌<◌, ◌≤◌, Bool, true, false, List, [], ◌∷◌, Option, Some, None, refl, ap, ap₂, ◌∙◌, sym, subst, true≢false, arith}
+use Rattle.std.proofs.Common.{◌≡◌, inl, ℕ, ◌+◌, ◌<◌, Bool, false, List, [], ◌∷◌, Option, Some, None, refl, ap, ap₂, ◌∙◌, sym, subst, true≢false, arith}
 use Rattle.std.specs.List.{Contains}
 use Rattle.std.proofs.lemmas.List.{append-nil}
 use Rattle.std.proofs.lemmas.Option.{none-some, same_Some}
@@ -23,22 +23,18 @@ use Rattle.trace_out.specs.declared.line.Said2.{Said2}
 use Rattle.machine_model.specs.Asking.{asks_by}
 use Rattle.machine_model.specs.Domain.{DomainState, fiber_at}
 use Rattle.machine_model.specs.Labels.{Inner, Idle}
-use Rattle.machine_model.specs.Moves.{asks, after, line_of, own_move, counted_as}
+use Rattle.machine_model.specs.Moves.{asks, after, line_of, own_move}
 use Rattle.machine_model.specs.Preparing.{Owes, Rests, Ticks, Prepared, prepared, at_once, moves, prepared_ready, prepared_timers}
 use Rattle.machine_model.specs.Runs.{Noted, DomainMoves}
-use Rattle.machine_model.specs.Steps.{Step}
 use Rattle.domain_core.specs.declared.told.Told.{Told}
-use Rattle.domain_core.specs.Answering.{SameCounts, Tells}
-use Rattle.domain_core.specs.FirstLaws.{KeepsFirst}
+use Rattle.domain_core.specs.Answering.{SameCounts}
 use Rattle.domain_core.specs.FirstStates.{IsFirstState}
 use Rattle.domain_core.specs.Keeping.{KeptDomain}
 use Rattle.domain_core.specs.Mirrors.{Mirrors}
 use Rattle.domain_core.specs.Moving.{with_head, MovesOwn}
-use Rattle.domain_core.specs.Objects.{AreFor}
 use Rattle.domain_core.specs.Turns as turns
-use Rattle.domain_core.specs.Turns.{StandsFor, StandsForSome}
+use Rattle.domain_core.specs.Turns.{StandsFor}
 use Rattle.domain_core.specs.declared.turn.Turn.TheVariants.{Moved}
-use Rattle.domain_core.proofs.FirstChildless.{none_stands}
 use Rattle.domain_core.proofs.FirstKept.{keeps_first}
 
 -- ## The look for a message

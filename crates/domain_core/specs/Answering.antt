@@ -1,5 +1,5 @@
 -- What the methods of a domain do, whatever domain of the definitions is stood for.
-use Rattle.std.specs.Prelude.{◌≡◌, ◌≢◌, ℕ, ◌<◌, true, false, List, [], ◌∷◌, length, IsSome, Some, None}
+use Rattle.std.specs.Prelude.{◌≡◌, ◌≢◌, ℕ, ◌<◌, true, false, List, [], length, IsSome, Some, None}
 use Rattle.cancel_tree.specs.Endings.{HasNoLiveChild}
 use Rattle.cancel_tree.specs.Waits.{waits_in}
 use Rattle.eio_value.specs.declared.raised.Outcome.{Outcome}
@@ -43,7 +43,8 @@ pub record Tells (step : Step) (told : Told) : Type 0 where
 -- this call of a fiber was answered so, whatever is stood for
 pub record Answers (script : Script) (call : Ask) (g : ℕ) (old : KeptDomain) (told : Told) (new : KeptDomain) : Type 0 where
   pub tells : (texts : List (List ℕ)) (l : DomainState) → Mirrors (nodes_of script) texts old l → Tells (own_call script (ask_of (nodes_of script) call) g l) told
-  pub becomes : (texts : List (List ℕ)) (l : DomainState) → Mirrors (nodes_of script) texts old l → Mirrors (nodes_of script) texts new (own_call script (ask_of (nodes_of script) call) g l).state
+  pub becomes : (texts : List (List ℕ)) (l : DomainState) → Mirrors (nodes_of script) texts old l
+      → Mirrors (nodes_of script) texts new (own_call script (ask_of (nodes_of script) call) g l).state
 
 -- the domain is of the same number, and has made as many lines of as many as it may, the last one with the same stamp
 pub record SameCounts (old new : KeptDomain) : Type 0 where
@@ -65,7 +66,8 @@ IsOn kept g = (fiber : Fiber) → kept_at kept.fibers g ≡ Some fiber → (is_l
 
 -- the context of each switch that hasn't finished is live
 abbrev pub HasLiveContexts : KeptDomain → Type 0
-HasLiveContexts kept = (n : ℕ) → n < length kept.switches → (switch_at kept.switches n).finished ≡ false → is_live kept.contexts.made (switch_at kept.switches n).context ≡ true
+HasLiveContexts kept = (n : ℕ) → n < length kept.switches → (switch_at kept.switches n).finished ≡ false
+    → is_live kept.contexts.made (switch_at kept.switches n).context ≡ true
 
 -- no switch has this fiber
 abbrev pub IsAttachedToNone : KeptDomain → (fiber : ℕ) → Type 0

@@ -46,7 +46,8 @@ FirstWorkSettles = (work : List Work) (given : Value) (c : Carry) → AreFirstWo
 -- ## States
 
 abbrev pub OpensFirst : Type 0
-OpensFirst = (script : Script) (body : ℕ) → HasFirstForms script → body < length script.bodies → IsFirstState (opening_domain body (opening_texts script) (body_of script body))
+OpensFirst = (script : Script) (body : ℕ) → HasFirstForms script → body < length script.bodies
+    → IsFirstState (opening_domain body (opening_texts script) (body_of script body))
 
 -- no message comes to such a domain
 abbrev pub KeepsFirst : Type 0

@@ -91,12 +91,16 @@ pub record OpensAt (l : DomainState) (switch g place : ℕ) : Type 0 where
 
 -- ## The domain
 
+-- nobody failed there, and neither daemons nor handlers were registered
+abbrev pub IsCalm : Switch → Type 0
+IsCalm switch = (switch.errors ≡ None) × (switch.daemons ≡ []) × (switch.batch ≡ []) × (switch.fresh ≡ []) × (switch.running ≡ false)
+
 pub record IsFirstState (l : DomainState) : Type 0 where
   -- nothing is owed, nobody sleeps, nothing was cancelled
   pub owes : l.duties ≡ []
   pub sleeps : l.timers.standing ≡ []
   pub uncancelled : All (λ (context : Context). context.reason ≡ None) l.contexts
-  pub calm : All (λ (switch : Switch). (switch.errors ≡ None) × (switch.daemons ≡ []) × (switch.batch ≡ []) × (switch.fresh ≡ []) × (switch.running ≡ false)) l.switches
+  pub calm : All IsCalm l.switches
   pub stand : (g : ℕ) → IsFirstStanding (fiber_at l.fibers g).standing
   pub fibers : (g : ℕ) → IsFirstAt l g (fiber_at l.fibers g)
   -- who stands in the ready list is ready, and stands there once
@@ -108,12 +112,14 @@ pub record IsFirstState (l : DomainState) : Type 0 where
   pub emptied : (n : ℕ) → (switch_at l.switches n).finished ≡ true → (switch_at l.switches n).fibers ≡ []
   -- a switch is finished, or open at one place alone, and then its context is live
   pub open_once : (n g h i j : ℕ) → OpensAt l n g i → OpensAt l n h j → (g ≡ h) × (i ≡ j)
-  pub opens : (n g i : ℕ) → OpensAt l n g i → (n < length l.switches) × ((switch_at l.switches n).finished ≡ false) × (is_live l.contexts (switch_at l.switches n).context ≡ true)
+  pub opens : (n g i : ℕ) → OpensAt l n g i
+      → (n < length l.switches) × ((switch_at l.switches n).finished ≡ false) × (is_live l.contexts (switch_at l.switches n).context ≡ true)
   pub opened : (n : ℕ) → (switch_at l.switches n).finished ≡ false → (g : ℕ) × (i : ℕ) × OpensAt l n g i
   -- each switch has a context of its own, beside which only that of the body is live, while the body is
   pub own : (n m : ℕ) → n < length l.switches → m < length l.switches → (switch_at l.switches n).context ≡ (switch_at l.switches m).context → n ≡ m
   pub below : (n : ℕ) → n < length l.switches → (0 < (switch_at l.switches n).context) × ((switch_at l.switches n).context < length l.contexts)
-  pub owned : (c : ℕ) → is_live l.contexts c ≡ true → (c ≡ 0) ⊎ ((n : ℕ) × (n < length l.switches) × ((switch_at l.switches n).context ≡ c) × ((switch_at l.switches n).finished ≡ false))
+  pub owned : (c : ℕ) → is_live l.contexts c ≡ true
+      → (c ≡ 0) ⊎ ((n : ℕ) × (n < length l.switches) × ((switch_at l.switches n).context ≡ c) × ((switch_at l.switches n).finished ≡ false))
   pub root : (context_at l.contexts 0).parent ≡ None
   pub body : is_live l.contexts 0 ≡ true → has_ended (fiber_at l.fibers 0) ≡ false
   pub rooted : has_ended (fiber_at l.fibers 0) ≡ false → is_live l.contexts 0 ≡ true

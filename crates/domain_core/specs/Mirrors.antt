@@ -1,7 +1,6 @@
 -- What is kept of a domain, as the domain of the definitions that it stands for, under the nodes of its script.
 -- The definitions keep fibers and contexts that have ended; what is kept stands for every domain that differs in those alone.
-use Rattle.std.specs.Prelude.{◌≡◌, ℕ, List, [], length, true, Option, Some, None, slice_get}
-use Rattle.std.specs.Option.{unwrap_or}
+use Rattle.std.specs.Prelude.{◌≡◌, ℕ, List, [], length, true, Option, Some, None}
 use Rattle.eio_value.specs.declared.raised.Outcome.TheVariants as outcome
 use Rattle.script_lang.specs.declared.node.Node.{Node}
 use Rattle.step_model.specs.Asks as ask

@@ -1,7 +1,6 @@
 -- What a domain asks of the objects that it is given at a turn, and finds of them again behind it.
-use Rattle.std.specs.Prelude.{◌≡◌, ℕ, ◌≤◌, Bool, true, false, List, [], length}
+use Rattle.std.specs.Prelude.{◌≡◌, ℕ, ◌≤◌, Bool, false, []}
 use Rattle.eio_value.specs.declared.message.Waiter.{Waiter}
-use Rattle.eio_value.specs.Fitting.{Submit}
 use Rattle.eio_value.specs.Waits.{Terms, Open}
 use Rattle.domain_core.specs.Keeping.{KeptDomain}
 

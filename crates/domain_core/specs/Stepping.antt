@@ -31,7 +31,9 @@ pub record Enters (nodes : List Node) (call : Ask) (made number : ℕ) (old new 
   pub placed : ArePlaced nodes reframes.frames.items
 
 -- it has come to its next call
-pub record Settles (nodes : List Node) (came : Outcome) (number : ℕ) (old : List (Option Fiber)) (old_texts : List (List ℕ)) (old_serial : ℕ) (call : Ask) (new : List (Option Fiber)) (new_texts : List (List ℕ)) (new_serial : ℕ) : Type 0 where
+pub record Settles
+    (nodes : List Node) (came : Outcome) (number : ℕ) (old : List (Option Fiber)) (old_texts : List (List ℕ)) (old_serial : ℕ)
+    (call : Ask) (new : List (Option Fiber)) (new_texts : List (List ℕ)) (new_serial : ℕ) : Type 0 where
   pub reframes : Reframes number old new
   pub settles : SettlesTo nodes came reframes.fiber.frames (shared_by old_texts old_serial) call reframes.frames (shared_by new_texts new_serial)
   pub placed : ArePlaced nodes reframes.frames.items

@@ -24,7 +24,6 @@ use Rattle.machine_model.specs.Preparing.{prepared}
 use Rattle.machine_model.specs.Runs.{DomainMoves, message_stamp}
 use Rattle.domain_core.specs.declared.turn.Turn.{Turn}
 use Rattle.domain_core.specs.declared.turn.Turn.TheVariants.{Moved, Idle, Spent, Halted}
-use Rattle.script_laws.specs.FirstForms.{HasFirstForms}
 use Rattle.domain_core.specs.FirstStates.{IsFirstState}
 use Rattle.fiber_step.specs.Throwing.{IsGrown}
 use Rattle.domain_core.specs.Keeping.{KeptDomain}
@@ -111,7 +110,8 @@ module _
 
     abbrev pub Turns : Script → Turn → (old_texts new_texts : List (List ℕ)) → (old new : KeptDomain) → O → O → Type 0
     Turns script (Moved line) old_texts new_texts old new before after =
-        MayMove old × (new.lines ≡ old.lines + 1) × (new.budget ≡ old.budget) × (new.mocked ≡ old.mocked) × IsGrown old_texts new_texts × MovesTo script line old_texts new_texts old new before after
+        MayMove old × (new.lines ≡ old.lines + 1) × (new.budget ≡ old.budget) × (new.mocked ≡ old.mocked) × IsGrown old_texts new_texts
+        × MovesTo script line old_texts new_texts old new before after
     Turns script Idle old_texts new_texts old new before after =
         MayMove old × IsSame old_texts new_texts old new × receives before None after
         × ((l : DomainState) → StandsFor script old_texts old l → (l.duties ≡ []) × (asks l ≡ AsksNothing))

@@ -1,8 +1,7 @@
 //! The calls of fibers, one method each. Each contract says that the call is the definition's, whatever domain is stood for
 //! (`Answers`); what the calls on contexts and switches ask stands in the words of what is kept.
 
-ghost use Rattle.std.specs.Prelude.{◌≡◌, ◌<◌, ◌+◌, ◌-◌, ◌≤◌, ◌^◌, ℕ, List, ◌∷◌, length, count_by, is_some, true, false, Some, None, IsSome, IfOk, OnOk};
-ghost use Rattle.row_model.specs.Contexts.{is_live};
+ghost use Rattle.std.specs.Prelude.{◌≡◌, ◌<◌, ◌+◌, ◌-◌, ◌≤◌, ◌^◌, ℕ, List, ◌∷◌, length, count_by, is_some, true, false, Some, None, IfOk, OnOk};
 ghost use Rattle.row_model.specs.Switches.{switch_at, refuses_fibers, refuses_forks};
 ghost use Rattle.switch_core.specs.Attaching.{IsAttached};
 ghost use Rattle.script_model.specs.Scripts.{Script as Read};

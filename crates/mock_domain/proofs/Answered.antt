@@ -1,11 +1,10 @@
 -- From a run in code to what is due to the whole input.
-use Rattle.std.proofs.Common.{◌≡◌, ◌≢◌, ℕ, List, [], ◌++◌, Some, None, IfSome, Result, Ok, Err, refl, ap, sym, subst, ◌∙◌}
+use Rattle.std.proofs.Common.{◌≡◌, ◌≢◌, ℕ, List, ◌++◌, Some, None, IfSome, Result, Ok, Err, refl, ap, sym, subst, ◌∙◌}
 use Rattle.std.specs.Prelude.{IfOk}
 use Rattle.std.specs.declared.option.Option.{Option}
 use Rattle.std.specs.Io.KnownBytes.{Appends}
 use Rattle.std.proofs.KnownBytes.{Appends-trans}
 use Rattle.script_model.specs.Inputs.{mocked_script}
-use Rattle.script_model.specs.Refusals.{Refusal, refusal_line}
 use Rattle.script_model.specs.Scripts.{Script}
 use Rattle.script_laws.specs.FirstForms.{first_built}
 use Rattle.trace_out.specs.Causes.{AppendsFront}
@@ -15,7 +14,7 @@ use Rattle.trace_out.specs.declared.status.Status.TheVariants as status
 use Rattle.trace_out.proofs.Appended.{front_after, front_longer}
 use Rattle.machine_model.specs.declared.Ending.{Ending}
 use Rattle.machine_model.specs.declared.Ending.TheVariants as ending
-use Rattle.machine_model.specs.Answers.{Answer, ended, refused_by, told_by, ran, ran_if, mocked}
+use Rattle.machine_model.specs.Answers.{Answer, ended, ran, ran_if, mocked}
 use Rattle.machine_model.specs.Mock.{Mock}
 use Rattle.machine_model.specs.Trace.{run, trace, ending_in, last_line}
 use Rattle.script_input.specs.declared.refusal.Refusal.{Refusal as Refused}

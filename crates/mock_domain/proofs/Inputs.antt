@@ -2,24 +2,21 @@
 use Rattle.std.proofs.Common.{◌≡◌, ℕ, ◌<◌, List, [], ◌++◌, length, Option, Some, None, Result, Ok, Err, refl, ap, sym, subst, ◌∙◌}
 use Rattle.std.specs.Prelude.{IfErr}
 use Rattle.script_model.specs.Faults as model
-use Rattle.script_model.specs.Features.{Built}
 use Rattle.script_model.specs.Inputs.{input_script, unless_at, mocked_script}
 use Rattle.script_model.specs.RefusedForms.{domain_only, unbuilt}
-use Rattle.script_model.specs.Refusals.{Refusal, TooLong, NoTree, NoScript, MockOnly, DomainOnly, Unbuilt, or_refused, input_tree, refusal_line}
+use Rattle.script_model.specs.Refusals.{Refusal, TooLong, NoTree, NoScript, MockOnly, DomainOnly, Unbuilt, or_refused, refusal_line}
 use Rattle.script_model.specs.Results.{◌>>=◌}
 use Rattle.script_model.specs.Scripts.{Script, script_of}
 use Rattle.script_lang.proofs.TextsRead.{script_has_texts}
 use Rattle.script_laws.specs.FirstForms.{first_built}
-use Rattle.script_laws.specs.Soundness.{IsSound}
 use Rattle.script_laws.proofs.FirstScripts.{first_scripts}
 use Rattle.script_laws.proofs.Scripts.{script_is_read, input_is_sound}
 use Rattle.tree_laws.proofs.Steps.{same_Ok, err-ok, both_gave}
-use Rattle.trace_out.specs.Input.{ReadsInput}
 use Rattle.script_input.proofs.Fronts.{tree_front}
 use Rattle.script_input.specs.declared.fault.InputFault.{InputFault}
 use Rattle.script_input.specs.declared.fault.InputFault.TheVariants as fault
 use Rattle.script_input.specs.declared.refusal.Kind.TheVariants as kind
-use Rattle.script_input.specs.Refusals.{IsRefusedAs, Refuses, at_place, line_of, seen}
+use Rattle.script_input.specs.Refusals.{Refuses, at_place, line_of, seen}
 use Rattle.mock_domain.specs.Scripts.{IsRun}
 
 -- ## By the script that was read

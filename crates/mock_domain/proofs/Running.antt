@@ -1,5 +1,5 @@
 -- A run in code: what was written so far, and where the moves that are left lead.
-use Rattle.std.proofs.Common.{◌≡◌, ℕ, zero, suc, ◌+◌, ◌-◌, ◌<◌, ◌≤◌, true, false, List, [], ◌∷◌, ◌++◌, length, Some, None, refl, ap, sym, ◌∙◌, subst, append_assoc, append-nil, length-append, arith}
+use Rattle.std.proofs.Common.{◌≡◌, ℕ, suc, ◌+◌, ◌-◌, ◌<◌, ◌≤◌, true, List, [], ◌∷◌, ◌++◌, length, Some, None, refl, ap, sym, ◌∙◌, subst, append_assoc, append-nil, length-append, arith}
 use Rattle.std.specs.Prelude.{All, slice_get, Result, Ok, Err, IsErr}
 use Rattle.std.specs.declared.option.Option.{Option}
 use Rattle.std.specs.Io.KnownBytes.{Appends}
@@ -15,14 +15,14 @@ use Rattle.script_model.specs.Opening.{opening_texts}
 use Rattle.script_model.specs.Scripts.{Script}
 use Rattle.script_model.specs.Syntax.{Block, Begins, Done}
 use Rattle.trace_out.specs.declared.line.Line.{Line}
-use Rattle.trace_out.specs.Causes.{Rose, AppendsFront}
+use Rattle.trace_out.specs.Causes.{AppendsFront}
 use Rattle.trace_out.specs.TraceTexts.{CanTrace, trace_text}
 use Rattle.trace_out.proofs.Appended.{front_of_whole, front_after, front_longer}
 use Rattle.machine_model.specs.Domain.{DomainState}
-use Rattle.machine_model.specs.Labels.{Label, Inner, Own, Called, Struck, Mocked, Took}
+use Rattle.machine_model.specs.Labels.{Label, Inner, Called, Struck, Mocked, Took}
 use Rattle.machine_model.specs.Mock.{Mock, Moved, move, moves, opening, opening_domain, first_body}
-use Rattle.machine_model.specs.Moves.{asks, after, line_of}
-use Rattle.machine_model.specs.Runs.{Noted, DomainMoves, Fits}
+use Rattle.machine_model.specs.Moves.{after, line_of}
+use Rattle.machine_model.specs.Runs.{Fits}
 use Rattle.machine_model.specs.Trace.{run, trace, written_by, last_after}
 use Rattle.fiber_step.specs.Throwing.{IsGrown}
 use Rattle.domain_core.specs.declared.turn.Turn.TheVariants as turn

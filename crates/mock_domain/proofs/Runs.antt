@@ -1,13 +1,10 @@
 -- A run, move by move; and a move of a domain that asks nothing of what is outside.
-use Rattle.std.proofs.Common.{◌≡◌, ℕ, zero, suc, ◌+◌, true, false, List, [], ◌∷◌, Option, Some, None, refl, ap, sym, ◌∙◌}
+use Rattle.std.proofs.Common.{◌≡◌, ℕ, zero, suc, ◌+◌, true, false, List, [], ◌∷◌, Option, Some, None, refl, ap, ◌∙◌}
 use Rattle.script_model.specs.Scripts.{Script}
-use Rattle.machine_model.specs.Asking.{asks_by}
-use Rattle.machine_model.specs.Domain.{DomainState}
 use Rattle.machine_model.specs.Labels.{Asks, Idle, Own, Inner}
 use Rattle.machine_model.specs.Mock.{Mock, Moved, comes, moved_by, move_by, move, moves}
-use Rattle.machine_model.specs.Moves.{asks, after, line_of, stepped_by, raises_by, own_move}
-use Rattle.machine_model.specs.Preparing.{Prepared, prepared}
-use Rattle.machine_model.specs.Trace.{last_after}
+use Rattle.machine_model.specs.Moves.{asks, after, line_of, stepped_by, own_move}
+use Rattle.machine_model.specs.Preparing.{prepared}
 
 -- ## Lists of moves
 

@@ -1,11 +1,10 @@
 -- The texts that a fiber of the forms that are built traces: they stand in its statements.
 use Rattle.std.proofs.Common.{◌≡◌, ℕ, ◌<◌, List, [], ◌∷◌, refl, sym, ap, subst}
-use Rattle.std.specs.Prelude.{map}
 use Rattle.std.specs.List.{AllByRecursion as Each}
 use Rattle.eio_value.specs.declared.value.Value.{Value}
 use Rattle.eio_value.specs.declared.value.Value.TheVariants as value
 use Rattle.script_model.specs.Syntax as syntax
-use Rattle.script_model.specs.Syntax.{Expressions, NoExpressions, AndExpression, TextValue, Statements, Done, Then, Plain}
+use Rattle.script_model.specs.Syntax.{Expressions, NoExpressions, AndExpression, TextValue, Done, Then, Plain}
 use Rattle.script_lang.specs.Texted.{HasTextsOf, HaveTextsOf, HasTextsOfStatement, HaveTextsOfStatements}
 use Rattle.script_laws.specs.FirstForms.{AreTexts, IsFirst, AreFirst, IsFirstBlock}
 use Rattle.step_model.specs.Asks as ask

@@ -1,37 +1,32 @@
 -- What a move of a domain that is stood for writes to the trace can be written: the texts stand in the table, since a fiber's statements are those at the nodes of its script.
-use Rattle.std.proofs.Common.{◌≡◌, ℕ, ◌<◌, ◌≤◌, false, true, List, [], ◌∷◌, length, Option, Some, None, refl, sym, ap, ◌∙◌, subst}
+use Rattle.std.proofs.Common.{◌≡◌, ℕ, ◌≤◌, false, true, List, [], ◌∷◌, length, Option, Some, None, refl, sym, ap, ◌∙◌, subst}
 use Rattle.std.specs.Prelude.{map, reverse}
 use Rattle.std.specs.List.{AllByRecursion as Each, Contains}
 use Rattle.std.proofs.lemmas.Bool.{false≢true}
 use Rattle.eio_value.specs.declared.raised.Outcome.TheVariants as outcome
 use Rattle.eio_value.specs.declared.value.TextId.{TextId}
 use Rattle.eio_value.specs.declared.value.Value.TheVariants as value
-use Rattle.row_model.specs.Timers.{Timer}
 use Rattle.script_lang.specs.Flat.{nodes_of}
 use Rattle.script_lang.specs.Texted.{HasBodyTexts}
-use Rattle.script_lang.specs.declared.node.Node.{Node}
 use Rattle.script_model.specs.Scripts.{Script}
 use Rattle.step_model.specs.Asks as ask
-use Rattle.step_model.specs.Settling.{Settled}
-use Rattle.step_model.specs.Work.{Work, Carry}
-use Rattle.fiber_step.specs.Standing.{mark_work, work_of, works_of}
+use Rattle.step_model.specs.Work.{Carry}
+use Rattle.fiber_step.specs.Standing.{mark_work, work_of}
 use Rattle.fiber_step.specs.declared.item.Item.{Item}
 use Rattle.fiber_step.specs.declared.item.Item.TheVariants as item
 use Rattle.fiber_step.specs.declared.mark.Mark.{Mark}
 use Rattle.fiber_step.specs.declared.mark.Mark.TheVariants as mark
 use Rattle.trace_out.specs.TraceTexts.{CanTrace}
-use Rattle.machine_model.specs.Domain.{Role, OfBody, OfSwitch, Next, GoesOn, LooksUp, CallsAgain, Ready, Fiber, Duty, DomainState, fiber_at, has_ended, off_for}
+use Rattle.machine_model.specs.Domain.{Role, OfBody, OfSwitch, Next, GoesOn, LooksUp, CallsAgain, Ready, Fiber, DomainState, fiber_at, has_ended, off_for}
 use Rattle.machine_model.specs.Labels.{Inner}
 use Rattle.machine_model.specs.Moves.{line_of, own_move}
 use Rattle.machine_model.specs.Preparing as doing
 use Rattle.machine_model.specs.Preparing.{Prepared, at_once, next_call, called_by, carry_of, moves_of, moves, next_of, prepared_ready, prepared_timers, prepared}
-use Rattle.machine_model.specs.Runs.{Noted, DomainMoves}
 use Rattle.domain_core.specs.declared.fiber.Fiber.{Fiber as KeptFiber}
 use Rattle.domain_core.specs.FirstForms.{AreFirstWork, closes_in}
-use Rattle.domain_core.specs.FirstLaws.{IsFirstCall}
-use Rattle.domain_core.specs.FirstStates.{IsFirstState, IsFirstNext, IsFirstRole, IsFirstStanding, IsClose, open_switches}
+use Rattle.domain_core.specs.FirstStates.{IsFirstState, IsFirstNext, IsFirstRole, IsFirstStanding, open_switches}
 use Rattle.domain_core.specs.Keeping.{KeptDomain, kept_at}
-use Rattle.domain_core.specs.Mirrors.{IsKept, Mirrors}
+use Rattle.domain_core.specs.Mirrors.{IsKept}
 use Rattle.domain_core.specs.Turns.{StandsFor}
 use Rattle.domain_core.proofs.FirstCalling.{none_off, prepares_first}
 use Rattle.domain_core.proofs.FirstChanges.{contains_first, is_ready_lives}

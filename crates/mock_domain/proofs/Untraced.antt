@@ -1,5 +1,5 @@
 -- What the calls of the forms that are built write to the trace: a `trace` its operands, every other call nothing.
-use Rattle.std.proofs.Common.{◌≡◌, ℕ, ◌<◌, ◌≤◌, Bool, true, false, ◌&&◌, List, [], ◌∷◌, length, Option, Some, None, arith}
+use Rattle.std.proofs.Common.{ℕ, ◌≤◌, Bool, true, false, ◌&&◌, List, [], ◌∷◌, length, Option, Some, None, arith}
 use Rattle.std.specs.List.{AllByRecursion as Each}
 use Rattle.std.proofs.lemmas.List.Elements.{All-from_recursion}
 use Rattle.eio_value.specs.declared.plain.Plain.{Plain}
@@ -18,7 +18,6 @@ use Rattle.step_model.specs.Asks as ask
 use Rattle.step_model.specs.Asks.{Ask}
 use Rattle.step_model.specs.Numbered.{block_numbered}
 use Rattle.step_model.specs.Replies.{handled}
-use Rattle.trace_out.specs.declared.line.Did.{Did}
 use Rattle.trace_out.specs.declared.line.Did.TheVariants as did
 use Rattle.trace_out.specs.declared.line.Said2.TheVariants as said
 use Rattle.trace_out.specs.TraceTexts.{CanTrace}

@@ -4,7 +4,7 @@
 //! theorems are the clauses of the two traits at [`Local`], whose relations are those of specs/Objects. A kind that is built
 //! is a variant of [`Declared`].
 
-ghost use Rattle.std.specs.Prelude.{◌≡◌, ◌+◌, false, true, []};
+ghost use Rattle.std.specs.Prelude.{◌≡◌, false, true, []};
 ghost use Rattle.mock_domain.specs.Objects.{terms_of, is_open_in, thing_in, outside_stays, Calls, Strikes, Asks, Receives, Learns};
 
 use eio_value::{

@@ -1,22 +1,14 @@
-use Rattle.std.proofs.Common.{◌≡◌, ◌∙◌, ℕ, ap, sym, subst, refl, List, [], Option, Some, None}
-use Rattle.std.specs.Prelude.{IsSome}
+use Rattle.std.proofs.Common.{◌≡◌, ◌∙◌, ℕ, ap, sym, subst, refl, List, []}
 use Rattle.eio_value.specs.declared.raised.Outcome.TheVariants as outcome
 use Rattle.row_model.specs.Switches as model
-use Rattle.row_model.specs.Switches.{Switch, switch_at, with_switch, due_batch, close_step}
+use Rattle.row_model.specs.Switches.{Switch, switch_at, due_batch, close_step}
 use Rattle.switch_core.specs.Answers.{step_of}
 use Rattle.script_lang.specs.Flat.{nodes_of}
-use Rattle.step_model.specs.Asks as ask
-use Rattle.trace_out.specs.declared.line.Did.TheVariants as did
-use Rattle.trace_out.specs.declared.line.Said2.TheVariants as said
-use Rattle.machine_model.specs.Domain.{DomainState, ForOthers, GoesOn, to_head, stands, Parked as ParkedThere}
+use Rattle.machine_model.specs.Domain.{DomainState, GoesOn, to_head}
 use Rattle.machine_model.specs.ContextMoves.{leaves}
-use Rattle.machine_model.specs.Moves.{own_call}
-use Rattle.machine_model.specs.Steps.{Step, told}
 use Rattle.machine_model.specs.SwitchMoves.{with_switch_at}
-use Rattle.domain_core.specs.declared.fiber.Fiber.{Fiber}
 use Rattle.domain_core.specs.declared.standing.Standing.TheVariants.{Parked}
-use Rattle.domain_core.specs.declared.standing.Next.TheVariants as next
-use Rattle.domain_core.specs.Answering.{Lives, Tells}
+use Rattle.domain_core.specs.Answering.{Lives}
 use Rattle.domain_core.specs.Keeping.{KeptDomain, kept_at}
 use Rattle.domain_core.specs.Mirrors.{Mirrors}
 use Rattle.domain_core.proofs.Closing.{waits_there, returns_there}

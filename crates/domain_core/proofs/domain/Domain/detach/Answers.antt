@@ -1,8 +1,5 @@
-use Rattle.std.proofs.Common.{◌≡◌, ◌∙◌, ap, sym, subst, Option, Some, false}
-use Rattle.std.specs.Option.{option_map}
+use Rattle.std.proofs.Common.{◌∙◌, ap, sym, subst, Some}
 use Rattle.machine_model.specs.Domain.{DomainState}
-use Rattle.domain_core.specs.declared.fiber.Fiber.{Fiber}
-use Rattle.domain_core.specs.declared.standing.Standing.TheVariants.{Parked}
 use Rattle.domain_core.specs.Mirrors.{Mirrors}
 use Rattle.domain_core.proofs.Detaching.{left_mirrors, detached_woken}
 use Rattle.domain_core.proofs.domain.Domain.detach.Goals as goal

@@ -1,11 +1,11 @@
-use Rattle.std.proofs.Common.{◌≡◌, ◌∙◌, ap, sym, subst, refl}
+use Rattle.std.proofs.Common.{ap, sym, subst, refl}
 use Rattle.eio_value.specs.declared.raised.Outcome.{Outcome}
 use Rattle.eio_value.specs.declared.raised.Outcome.TheVariants as outcome
 use Rattle.script_lang.specs.Flat.{nodes_of}
 use Rattle.machine_model.specs.EndMoves.{ends}
 use Rattle.machine_model.specs.Moves.{own_call}
 use Rattle.machine_model.specs.Steps.{reply_of}
-use Rattle.domain_core.specs.Answering.{MayEnd, IsGiven}
+use Rattle.domain_core.specs.Answering.{MayEnd}
 use Rattle.domain_core.specs.Mirrors.{Mirrors}
 use Rattle.domain_core.proofs.Ending.{ends_body, ends_switched}
 use Rattle.domain_core.proofs.domain.Domain.end.Goals as goal

@@ -2,9 +2,7 @@ use Rattle.std.proofs.Common.{◌∙◌, ap, sym, subst}
 use Rattle.std.specs.Option.{unwrap_or}
 use Rattle.domain_core.specs.Answering.{Lives, MayEndContext}
 use Rattle.domain_core.specs.Mirrors.{Mirrors}
-use Rattle.std.proofs.Common.{Option}
 use Rattle.std.specs.Prelude.{IsSome}
-use Rattle.domain_core.specs.declared.fiber.Fiber.{Fiber}
 use Rattle.domain_core.specs.Keeping.{kept_at}
 use Rattle.domain_core.proofs.Leaving.{leaves_mirrors}
 use Rattle.domain_core.proofs.Mirroring.{lives_changed}

@@ -1,4 +1,4 @@
-use Rattle.std.proofs.Common.{◌≡◌, ◌∙◌, ap, sym, subst, length, refl}
+use Rattle.std.proofs.Common.{◌∙◌, ap, sym, subst, length}
 use Rattle.row_model.specs.Switches.{switch_at}
 use Rattle.switch_core.specs.Attaching.{IsAttached}
 use Rattle.domain_core.specs.Answering.{Lives, IsAttachedToNone}

@@ -1,8 +1,6 @@
 use Rattle.std.proofs.Common.{subst, arith}
 use Rattle.script_lang.specs.Flat.{nodes_of}
 use Rattle.fiber_step.specs.Stepping.{HasBodiesOf}
-use Rattle.machine_model.specs.Domain.{DomainState}
-use Rattle.domain_core.specs.declared.told.Told.{Told}
 use Rattle.domain_core.proofs.Moving.{is_at, is_built, first_call, lives, room, on, few_contexts, few_switches, few_fibers, room_for_one, most, fork_number, live_contexts, apart, may_close, may_give, may_be_ended, texts_stay, moves_by, moves_closing, moves_forking, if_ok, on_ok}
 use Rattle.domain_core.proofs.domain.Domain.move_of.Goals as goal
 

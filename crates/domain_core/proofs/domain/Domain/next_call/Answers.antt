@@ -1,18 +1,12 @@
-use Rattle.std.proofs.Common.{◌≡◌, inl, inr, ◌∙◌, ap, sym, subst, refl, ℕ, List, Option, Some, None}
-use Rattle.std.specs.Prelude.{IsSome, Result, Ok, Err, IfOk}
-use Rattle.eio_value.specs.declared.raised.Outcome.TheVariants as outcome
-use Rattle.fiber_step.specs.declared.ask.Ask.{Ask}
-use Rattle.script_lang.specs.Flat.{nodes_of}
-use Rattle.machine_model.specs.Domain.{DomainState}
+use Rattle.std.proofs.Common.{inl, inr, ◌∙◌, ap, sym, subst}
 use Rattle.domain_core.specs.declared.fiber.Fiber.{Fiber}
 use Rattle.domain_core.specs.declared.standing.Next.TheVariants as next
 use Rattle.domain_core.specs.declared.standing.Standing.TheVariants as standing
 use Rattle.domain_core.proofs.Moving.{if_ok}
 use Rattle.std.proofs.lemmas.Option.{same_Some}
 use Rattle.domain_core.specs.Answering.{Lives}
-use Rattle.domain_core.specs.Keeping.{KeptDomain, kept_at}
-use Rattle.domain_core.specs.Moving.{with_head, ComesTo}
-use Rattle.domain_core.specs.Stepping.{Settles}
+use Rattle.domain_core.specs.Keeping.{kept_at}
+use Rattle.domain_core.specs.Moving.{with_head}
 use Rattle.domain_core.specs.Turns.{StandsFor}
 use Rattle.domain_core.proofs.Preparing.{Brings, head_lives, head_ready, comes_again, comes_settled}
 use Rattle.domain_core.proofs.domain.Domain.next_call.Goals as goal

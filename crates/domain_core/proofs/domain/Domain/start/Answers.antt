@@ -1,4 +1,4 @@
-use Rattle.std.proofs.Common.{◌≡◌, ◌∙◌, ap, ap₂, sym, subst, refl, ℕ, ◌*◌, ◌%◌, ◌^◌, ◌<◌, List, [], ◌∷◌, ◌++◌, length, Option, Some, None, arith}
+use Rattle.std.proofs.Common.{◌≡◌, ◌∙◌, ap, ℕ, List, [], ◌∷◌, ◌++◌, length, Option, Some, arith}
 use Rattle.std.proofs.lemmas.Option.{same_Some}
 use Rattle.row_model.specs.Contexts.{root}
 use Rattle.row_model.specs.ContextCalls.{Contexts, Root, called}

@@ -1,9 +1,7 @@
-use Rattle.std.proofs.Common.{◌≡◌, ◌∙◌, ap, sym, subst, refl, ℕ, ◌<◌, Bool, true, false, List, [], Option, None}
+use Rattle.std.proofs.Common.{◌≡◌, ◌∙◌, ap, sym, subst, refl, ℕ, ◌<◌, List, [], Option, None}
 use Rattle.eio_value.specs.declared.message.Message.{Message}
-use Rattle.machine_model.specs.Domain.{DomainState}
 use Rattle.row_model.specs.ReadyList.{pop}
 use Rattle.domain_core.specs.Keeping.{KeptDomain}
-use Rattle.domain_core.specs.Turns.{StandsFor, Turns}
 use Rattle.domain_core.proofs.Turning.{no_message, rests, none_popped, same_popped, made_turn}
 use Rattle.domain_core.proofs.domain.Domain.turn.Goals as goal
 

@@ -1,7 +1,6 @@
-use Rattle.std.proofs.Common.{◌≡◌, ◌∙◌, ap, ap₂, sym, subst, List, [], ◌∷◌, ◌++◌, length, ◌+◌, ◌≤◌, ◌<◌, Option, Some, arith}
+use Rattle.std.proofs.Common.{◌≡◌, ◌∙◌, ap, ap₂, sym, subst, [], ◌∷◌, ◌++◌, length, ◌≤◌, ◌<◌, Some, arith}
 use Rattle.std.specs.Prelude.{count_by, is_some}
-use Rattle.slab.specs.Slab.{slab_len, HasRoomFor}
-use Rattle.domain_core.specs.declared.fiber.Fiber.{Fiber}
+use Rattle.slab.specs.Slab.{slab_len}
 use Rattle.domain_core.specs.Keeping.{new_fiber}
 use Rattle.domain_core.specs.Keyed.{fibers_in, AreKeyed}
 use Rattle.domain_core.proofs.KeyLemmas.{live_is, made_is, added_keyed, added_list}

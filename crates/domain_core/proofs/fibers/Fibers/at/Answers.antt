@@ -1,4 +1,4 @@
-use Rattle.std.proofs.Common.{◌≡◌, ◌∙◌, ap, sym, subst, Some}
+use Rattle.std.proofs.Common.{◌∙◌, ap, sym, subst}
 use Rattle.std.specs.Prelude.{slice_get, IsSome}
 use Rattle.domain_core.specs.Keeping.{kept_at}
 use Rattle.domain_core.specs.Keyed.{HasKey}

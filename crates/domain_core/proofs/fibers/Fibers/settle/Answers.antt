@@ -1,10 +1,10 @@
-use Rattle.std.proofs.Common.{◌≡◌, ◌∙◌, ap, sym, subst, List, Option, Some, ℕ}
+use Rattle.std.proofs.Common.{◌≡◌, ◌∙◌, ap, sym, subst, List, Option, Some}
 use Rattle.std.specs.Prelude.{slice_get, IsSome, Result, Ok, Err, OnOk, IfOk}
 use Rattle.domain_core.specs.declared.fiber.Fiber.{Fiber}
 use Rattle.domain_core.specs.Keeping.{kept_at}
 use Rattle.domain_core.specs.Keyed.{HasKey, fibers_in}
 use Rattle.slab.specs.Slab.{with_value}
-use Rattle.domain_core.specs.Stepping.{IsPlacedAt, Reframes, Enters, Settles}
+use Rattle.domain_core.specs.Stepping.{Settles}
 use Rattle.domain_core.proofs.KeyLemmas.{has_key, kept_by_key, reframed, reframed_keyed}
 use Rattle.script_lang.specs.Flat.{nodes_of}
 use Rattle.domain_core.proofs.fibers.Fibers.settle.Goals as goal
