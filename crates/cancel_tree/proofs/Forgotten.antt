@@ -8,7 +8,7 @@ use Rattle.std.proofs.lemmas.Option.{none-some}
 use Rattle.std.proofs.lemmas.List.Sums.{sum_by-cons}
 use Rattle.eio_value.specs.declared.plain.Plain.{Plain}
 use Rattle.row_model.specs.Contexts.{Context, Waiting, never_made, context_at, is_live, live_count, is_full, new_context, make, above, way_within, off, first_reason, goes_up_to, takes_effect, cancel, reached}
-use Rattle.row_model.specs.ContextCalls.{Contexts, no_contexts, ContextCall, Root, Sub, Protect, Cancel, Wait, Unwait, End, called, after, put_in, taken_out}
+use Rattle.row_model.specs.ContextCalls.{Contexts, no_contexts, ContextCall, Root, Sub, Protect, Cancel, Wait, Unwait, End, called, after, put_in, taken_out, members}
 use Rattle.model_laws.proofs.Places.{others_unchanged, changed_itself, older_unchanged, made_last, past_all, left_by_change}
 use Rattle.cancel_tree.specs.Endings.{HasNoLiveChild}
 use Rattle.cancel_tree.specs.Waits.{waits_in}
@@ -16,6 +16,7 @@ use Rattle.cancel_tree.specs.Forgetting.{left, left_after, MayCall, MayCallAll, 
 use Rattle.cancel_tree.proofs.Changes.{cancel_none, cancel_some, make_full, make_contexts}
 use Rattle.cancel_tree.proofs.Finding.{tells_same}
 use Rattle.cancel_tree.proofs.Listing.{compared}
+use Rattle.cancel_tree.proofs.Waiting.{reached-cons}
 
 -- each waiting fiber's context is live
 abbrev WaitLive : List Context → List Waiting → Type 0
@@ -120,14 +121,10 @@ module _ (s t : List Context) (alike : Alike s t) where
 
   reached_alike : (ws : List Waiting) (c : ℕ) → WaitLive s ws → reached t ws c ≡ reached s ws c
   reached_alike [] c live = refl
-  reached_alike (w ∷ ws) c live =
-      ap (λ b. map (λ w. w.fiber) (cond b (w ∷ filter (λ w. goes_up_to t w.context c) ws) (filter (λ w. goes_up_to t w.context c) ws))) (up_alike w.context c live.0)
-      ∙ by (goes_up_to s w.context c) (reached_alike ws c live.1)
-    where
-      by : (b : Bool) → map (λ w. w.fiber) (filter (λ w. goes_up_to t w.context c) ws) ≡ map (λ w. w.fiber) (filter (λ w. goes_up_to s w.context c) ws)
-          → map (λ w. w.fiber) (cond b (w ∷ filter (λ w. goes_up_to t w.context c) ws) (filter (λ w. goes_up_to t w.context c) ws)) ≡ map (λ w. w.fiber) (cond b (w ∷ filter (λ w. goes_up_to s w.context c) ws) (filter (λ w. goes_up_to s w.context c) ws))
-      by true e = ap (λ rest. w.fiber ∷ rest) e
-      by false e = e
+  reached_alike (w ∷ ws) c live = reached-cons s t w ws c (up_alike w.context c live.0) (reached_alike ws c live.1)
+
+members_alike : (s t : Contexts) → Alike s.made t.made → t.waiting ≡ s.waiting → WaitLive s.made s.waiting → (c : ℕ) → members t c ≡ members s c
+members_alike s t alike same live c = ap (λ ws. reached t.made ws c) same ∙ reached_alike s.made t.made alike s.waiting c live
 
 answers_alike : (s t : Contexts) → Alike s.made t.made → t.waiting ≡ s.waiting → WaitLive s.made s.waiting → AnswersAlike s t
 answers_alike s t alike same live = record {
@@ -138,7 +135,10 @@ answers_alike s t alike same live = record {
   stand = alike.stand;
   off = off_alike s.made t.made alike;
   reached = up_alike s.made t.made alike;
-  members = λ c. ap (λ ws. reached t.made ws c) same ∙ reached_alike s.made t.made alike s.waiting c live;
+  members = members_alike s t alike same live;
+  takes = takes_alike s.made t.made alike;
+  struck = λ c.
+      ap₂ (λ b ids. elim b as (λ _. List ℕ) [ true ↦ ids | false ↦ [] ]) (takes_alike s.made t.made alike c) (members_alike s t alike same live c);
 }
 
 -- Each call keeps them alike
@@ -152,7 +152,7 @@ ends-set [] c x = refl
 ends-set (y ∷ xs) zero x = refl
 ends-set (y ∷ xs) (suc c) x = ap (λ bs. y.ended ∷ bs) (ends-set xs c x)
 
-live_below : (s : List Context) (c : ℕ) → is_live s c ≡ true → c < length s
+pub live_below : (s : List Context) (c : ℕ) → is_live s c ≡ true → c < length s
 live_below s c lives = elim (compared c (length s)) [
   | inl below ↦ below
   | inr rest ↦
@@ -264,7 +264,7 @@ module _ (s t : List Context) (alike : Alike s t) (c : ℕ) (why : Plain) (lives
     parents = λ q p lived e. still_live p (alike.parents q p (was_live q lived) (sym (parent_is q) ∙ e));
   }
 
-effect_lives : (s : List Context) (c : ℕ) → takes_effect s c ≡ true → is_live s c ≡ true
+pub effect_lives : (s : List Context) (c : ℕ) → takes_effect s c ≡ true → is_live s c ≡ true
 effect_lives s c e = first (is_live s c) (is_none (off s c)) e
   where
     first : (a b : Bool) → (a && b) ≡ true → a ≡ true

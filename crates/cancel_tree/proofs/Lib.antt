@@ -3,5 +3,7 @@ pub mod Finding
 pub mod Forgotten
 pub mod Jumping
 pub mod Listing
+pub mod Once
+pub mod Striking
 pub mod Trees
 pub mod Waiting

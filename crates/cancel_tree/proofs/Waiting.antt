@@ -1,9 +1,9 @@
 -- Waiting fibers in order of their numbers: where one goes in, and what is left when it goes.
-use Rattle.std.proofs.Common.{◌≡◌, ℕ, zero, suc, ◌<◌, ◌≤◌, ◌≢◌, inl, inr, true, false, not, ◌||◌, nat_lt, List, [], ◌∷◌, ◌++◌, length, map, get_or, take, drop, cond, arith, refl, ap, ◌∙◌, sym, subst, true≢false}
+use Rattle.std.proofs.Common.{◌≡◌, ℕ, zero, suc, ◌<◌, ◌≤◌, ◌≢◌, inl, inr, Bool, true, false, not, ◌||◌, nat_lt, List, [], ◌∷◌, ◌++◌, length, map, filter, get_or, take, drop, cond, arith, refl, ap, ◌∙◌, sym, subst, true≢false}
 use Rattle.std.specs.List.{AllWithin}
 use Rattle.std.specs.List.Sorted.{IsPartitionedBy}
 use Rattle.std.proofs.lemmas.Bool.Decides.{eqb_tells}
-use Rattle.row_model.specs.Contexts.{Waiting}
+use Rattle.row_model.specs.Contexts.{Context, Waiting, goes_up_to, reached}
 use Rattle.row_model.specs.ContextCalls.{put_in, taken_out}
 use Rattle.cancel_tree.specs.declared.waiters.Entered.{Entered}
 use Rattle.cancel_tree.specs.Entered.{waiting_of, AreAbove, Rise}
@@ -143,3 +143,17 @@ Rise-rest [] zero rise = tt
 Rise-rest [] (suc i) rise = tt
 Rise-rest (x ∷ xs) zero rise = rise.1
 Rise-rest (x ∷ xs) (suc i) rise = (AreAbove-rest x.fiber xs i rise.0, Rise-rest xs i rise.1)
+
+-- Those that a cancellation reaches
+
+abbrev reaching : List Context → List Waiting → ℕ → List Waiting
+reaching contexts ws c = filter (λ w. goes_up_to contexts w.context c) ws
+
+-- one more, who goes up to the context alike in both trees
+pub reached-cons : (s t : List Context) (w : Waiting) (ws : List Waiting) (c : ℕ) → goes_up_to t w.context c ≡ goes_up_to s w.context c → reached t ws c ≡ reached s ws c → reached t (w ∷ ws) c ≡ reached s (w ∷ ws) c
+reached-cons s t w ws c up rest =
+    ap (λ b. map (λ w. w.fiber) (cond b (w ∷ reaching t ws c) (reaching t ws c))) up ∙ by (goes_up_to s w.context c)
+  where
+    by : (b : Bool) → map (λ w. w.fiber) (cond b (w ∷ reaching t ws c) (reaching t ws c)) ≡ map (λ w. w.fiber) (cond b (w ∷ reaching s ws c) (reaching s ws c))
+    by true = ap (λ fibers. w.fiber ∷ fibers) rest
+    by false = rest

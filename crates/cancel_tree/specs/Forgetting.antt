@@ -1,7 +1,7 @@
 -- What is forgotten of ended contexts makes no difference. The definitions keep all of an ended context; the code forgets it. After any
 -- calls that meet their conditions the two say the same of every live context.
 use Rattle.std.specs.Prelude.{◌≡◌, ℕ, true, false, List, [], ◌∷◌, length}
-use Rattle.row_model.specs.Contexts.{context_at, is_live, off, goes_up_to, is_full}
+use Rattle.row_model.specs.Contexts.{context_at, is_live, off, goes_up_to, is_full, takes_effect, to_be_struck}
 use Rattle.row_model.specs.ContextCalls.{Contexts, no_contexts, ContextCall, Root, Sub, Protect, Cancel, Wait, Unwait, End, called, after, members}
 use Rattle.cancel_tree.specs.Ended.{left_by_end}
 use Rattle.cancel_tree.specs.Endings.{HasNoLiveChild}
@@ -51,6 +51,8 @@ pub record AnswersAlike (s t : Contexts) : Type 0 where
   pub off : (c : ℕ) → is_live s.made c ≡ true → off t.made c ≡ off s.made c
   pub reached : (x c : ℕ) → is_live s.made x ≡ true → goes_up_to t.made x c ≡ goes_up_to s.made x c
   pub members : (c : ℕ) → members t c ≡ members s c
+  pub takes : (c : ℕ) → takes_effect t.made c ≡ takes_effect s.made c
+  pub struck : (c : ℕ) → to_be_struck t.made t.waiting c ≡ to_be_struck s.made s.waiting c
 
 abbrev pub ForgetsNothingLive : Type 0
 ForgetsNothingLive = (calls : List ContextCall) → MayCallAll calls no_contexts → AnswersAlike (after calls no_contexts) (left_after calls no_contexts)

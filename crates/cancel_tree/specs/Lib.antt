@@ -1,3 +1,4 @@
+pub mod Cancelling
 pub mod Ended
 pub mod Endings
 pub mod Entered

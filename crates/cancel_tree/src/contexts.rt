@@ -81,6 +81,13 @@ impl Contexts {
         self.tree.is_live(c)
     }
 
+    /// Whether as many contexts live as may: no other can be made.
+    pub fn is_full(&self) -> bool
+        ensures { result ≡ contexts.is_full self.now.made }
+    {
+        self.tree.is_full()
+    }
+
     /// The reason by which the context is off.
     pub fn is_off(&self, c: u32) -> Option<Plain>
         requires { contexts.is_live self.now.made c ≡ true }
@@ -134,6 +141,18 @@ impl Contexts {
                     unreachable!()
                 }
             }
+        }
+    }
+
+    /// Cancels the context for this reason, and appends the waiting fibers that this strikes, in order of number: those that it
+    /// reaches, where it takes effect, else none.
+    pub fn strike(&mut self, c: u32, why: Plain, out: &mut Vec<u32>)
+        requires room { vec_len out.old + 1024 ≤ vec_capacity out.old }
+        ensures after { self.new ≡ calls.called (calls.Cancel c why) self.old }
+        ensures struck { out.new.items ≡ out.old.items ++ contexts.to_be_struck self.old.made self.old.waiting c }
+    {
+        if self.cancel(c, why) {
+            self.members(c, out);
         }
     }
 

@@ -3,7 +3,7 @@
 ghost use Rattle.cancel_tree.specs.Forgetting.{ForgetsNothingLive};
 
 /// Whatever is called: as many contexts were made and the same are live as by the definitions, which forget nothing; each live
-/// context is off by the same reason; the same fibers wait, and each cancellation reaches the same.
+/// context is off by the same reason; the same fibers wait, and the same cancellations take effect, reach and strike the same.
 pub fn forgets_nothing_live()
     ensures { ForgetsNothingLive }
 {}

@@ -1,6 +1,7 @@
 //! The cancellation contexts of a domain, and the fibers that wait in them.
 #![tactic(auto)]
 
+mod cancelling;
 mod contexts;
 mod forgetting;
 mod kept;
@@ -9,5 +10,6 @@ mod tests;
 mod tree;
 mod waiters;
 
+pub use cancelling::cancels_once;
 pub use contexts::Contexts;
 pub use forgetting::forgets_nothing_live;

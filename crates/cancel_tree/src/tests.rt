@@ -32,7 +32,23 @@ fn cancels_below_but_not_the_protected(rt: HostRuntime) -> Result<(), Fail> {
     assert_eq!(rt; contexts.is_off(shut), None);
     assert!(rt; contexts.is_live(shut));
     assert_eq!(rt; contexts.parent(shut), Some(top));
+    assert!(rt; !contexts.is_full());
     contexts.unwait(7);
+    Ok(())
+}
+
+#[test]
+fn strikes_once(rt: HostRuntime) -> Result<(), Fail> {
+    let mut contexts = Contexts::new(rt.alloc())?;
+    let top = contexts.root()?;
+    assert!(rt; contexts.is_live(top));
+    contexts.wait(top, 5);
+    let mut struck = Vec::with_capacity(rt.alloc(), 1024)?;
+    contexts.strike(top, Plain::EndOfFile, &mut struck);
+    assert_eq!(rt; struck.as_slice(), [5].as_slice());
+    let mut again = Vec::with_capacity(rt.alloc(), 1024)?;
+    contexts.strike(top, Plain::NotFirst, &mut again);
+    assert!(rt; again.is_empty());
     Ok(())
 }
 

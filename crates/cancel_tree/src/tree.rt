@@ -64,6 +64,13 @@ impl Tree {
         place_of(&self.places, c).is_some()
     }
 
+    /// Whether as many live as may.
+    pub(crate) fn is_full(&self) -> bool
+        ensures { result ≡ contexts.is_full self.now }
+    {
+        self.places.len() >= MOST_CONTEXTS
+    }
+
     /// The parent of the context, if it has one. Of one that isn't live none is known.
     pub(crate) fn parent(&self, c: u32) -> Option<u32>
         ensures { result ≡ (contexts.context_at self.now c).parent }

@@ -34,6 +34,13 @@ impl Variables {
     {
         self.values.as_slice()
     }
+
+    /// The values, in order, handed over without a copy.
+    pub fn into_values(self) -> Vec<Value>
+        ensures { result.items ≡ self }
+    {
+        self.values
+    }
 }
 
 /// A release handler: its block, by the node that it begins with, and the values of the variables when it was registered.

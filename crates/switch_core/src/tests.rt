@@ -56,6 +56,8 @@ fn a_handler_runs(rt: HostRuntime) -> Result<(), Fail> {
     };
     assert_eq!(rt; next.node, 5);
     assert_eq!(rt; next.env.as_slice(), [Value::Ctx(5)].as_slice());
+    let values = next.env.into_values();
+    assert_eq!(rt; values.as_slice(), [Value::Ctx(5)].as_slice());
     Ok(())
 }
 
