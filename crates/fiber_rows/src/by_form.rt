@@ -4,11 +4,12 @@
 
 ghost use Rattle.std.specs.Prelude.{◌≤◌, length, IfOk, OnOk};
 ghost use Rattle.fiber_step.specs.Placing.{ArePlaced};
+ghost use Rattle.fiber_step.specs.Stepping.{HasBodiesOf};
 ghost use Rattle.script_lang.specs.Flat.{nodes_of};
 
 use crate::spelling::spelled;
 use eio_value::{Outcome, Texts, Value};
-use fiber_step::{Fiber, Variables, first_node};
+use fiber_step::{Ask, Fiber, Variables, branch_bodies, first_node};
 use script_lang::{Script, read_script};
 use script_tree::read_tree;
 use std::alloc::Global;
@@ -227,6 +228,16 @@ fn enter_first(
     }
 }
 
+/// The blocks of the branches that a call begins, if it begins some.
+fn bodies_of<'s>(script: &'s Script, call: &Ask) -> Option<&'s [u32]>
+    requires { HasBodiesOf (nodes_of script.now) call.now }
+{
+    match *call {
+        Ask::Branches { form, .. } => Some(branch_bodies(script, form)),
+        _ => None,
+    }
+}
+
 /// The bytes of a source that is short enough to be read.
 fn readable(source: &str) -> Result<&[u8], Fail>
     ensures { IfOk result (λ it. length it.now ≤ 262144) }
@@ -265,6 +276,19 @@ fn calls_within_blocks(rt: HostRuntime) -> Result<(), Fail> {
         let (number, source) = rest.split_once(" | ").ok_or("no answer")?;
         let call = inner_call(rt.alloc(), readable(source)?, number.parse::<u32>()?)?;
         assert_eq!(rt; call.as_str(), want, "{source}");
+    }
+    Ok(())
+}
+
+#[test]
+fn branches_are_in_order(rt: HostRuntime) -> Result<(), Fail> {
+    let source = readable("(eio 1 (main (both ((yield)) ((check)))))")?;
+    let script = read_script(rt.alloc(), &read_tree(rt.alloc(), source)?)?;
+    let mut texts = script.texts_of(rt.alloc())?;
+    let mut fiber = begun(rt.alloc(), &script)?;
+    match &fiber.settle(&script, &mut texts, &mut 0, &Outcome::Ok(Value::Unit)) {
+        Ok(call) => assert_eq!(rt; bodies_of(&script, call), Some([1, 3].as_slice())),
+        Err(_) => return Err("no memory".into()),
     }
     Ok(())
 }

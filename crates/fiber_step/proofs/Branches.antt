@@ -1,7 +1,7 @@
--- The last of the branches of a form.
-use Rattle.std.proofs.Common.{◌≡◌, ℕ, suc, ◌-◌, ◌<◌, List, [], ◌∷◌, ◌++◌, length, arith, Option, Some, None, refl, sym, ap, ◌∙◌}
+-- The branches of a form, and the last of them.
+use Rattle.std.proofs.Common.{◌≡◌, ℕ, suc, ◌-◌, ◌<◌, ◌≤◌, List, [], ◌∷◌, ◌++◌, length, map, arith, Option, Some, None, refl, sym, ap, ◌∙◌, subst}
 use Rattle.std.specs.Prelude.{slice_get}
-use Rattle.std.specs.List.{last_or}
+use Rattle.std.specs.List.{last_or, AllByRecursion as Each}
 use Rattle.std.specs.Option.{unwrap_or}
 use Rattle.std.proofs.lemmas.List.{length_push}
 use Rattle.std.proofs.lemmas.Option.{slice_get_within}
@@ -13,7 +13,9 @@ use Rattle.script_lang.specs.declared.node.Node.TheVariants as node
 use Rattle.step_model.specs.Replies.{own_branch}
 use Rattle.step_model.specs.Silent.{blocks_of}
 use Rattle.fiber_step.specs.Entering.{HasBranches}
+use Rattle.fiber_step.specs.Having.{HasStatements}
 use Rattle.fiber_step.specs.Standing.{branches_in, branches_at}
+use Rattle.fiber_step.specs.Stepping.{HasBranchBodies}
 
 pub form_within : (nodes : List Node) (form : ℕ) → HasBranches nodes form → form < length nodes
 form_within nodes form has = slice_get_within nodes form _ has.is
@@ -47,3 +49,31 @@ own_found nodes form n group blocks after found these has at is same last =
     let all = same_branches n n group has.group blocks (has.others ++ has.own ∷ []) after has.after is (same_some n _ (sym at ∙ has.is)) in
     let e = last ∙ (ap (λ s. slice_get s (length s - 1)) (same ∙ all) ∙ last_got has.others has.own) in
     ap (λ k. block_at nodes k) (same_some found has.own e) ∙ sym (own_is nodes form has)
+
+-- ## All of them
+
+blocks_mapped : (nodes : List Node) (numbers : List ℕ) → map (block_at nodes) numbers ≡ blocks_of (blocks_at nodes numbers)
+blocks_mapped nodes [] = refl
+blocks_mapped nodes (number ∷ numbers) = ap (λ these. block_at nodes number ∷ these) (blocks_mapped nodes numbers)
+
+-- the numbers of the node name the blocks of the form
+pub blocks_found : (nodes : List Node) (form : ℕ) (n : Node) (group : Group) (blocks : List ℕ) (after : ℕ) (these : List ℕ)
+    → slice_get nodes form ≡ Some n → n ≡ node.Branches group blocks after → these ≡ blocks → map (block_at nodes) these ≡ blocks_of (branches_at nodes form)
+blocks_found nodes form n group blocks after these at is same =
+    ap (λ s. map (block_at nodes) s) same ∙ (blocks_mapped nodes blocks ∙ ap (λ found. blocks_of (branches_in nodes found)) (sym (at ∙ ap (λ k. Some k) is)))
+
+-- at each of them a block begins
+pub all_begin : (nodes : List Node) (form : ℕ) (n : Node) (group : Group) (blocks : List ℕ) (after : ℕ) (these : List ℕ) → HasBranchBodies nodes form
+    → slice_get nodes form ≡ Some n → n ≡ node.Branches group blocks after → these ≡ blocks → Each (HasStatements nodes) these
+all_begin nodes form n group blocks after these has at is same =
+    let all = same_branches n n group has.group blocks has.numbers after has.after is (same_some n _ (sym at ∙ has.is)) in
+    subst (λ (s : List ℕ). Each (HasStatements nodes) s) (sym (same ∙ all)) has.begin
+
+-- there is one at least
+pub some_found : (nodes : List Node) (form : ℕ) (n : Node) (group : Group) (blocks : List ℕ) (after : ℕ) (these : List ℕ) → HasBranches nodes form
+    → slice_get nodes form ≡ Some n → n ≡ node.Branches group blocks after → these ≡ blocks → 1 ≤ length these
+some_found nodes form n group blocks after these has at is same =
+    let all = same_branches n n group has.group blocks (has.others ++ has.own ∷ []) after has.after is (same_some n _ (sym at ∙ has.is)) in
+    let count = ap (λ (s : List ℕ). length s) (same ∙ all) in
+    let size = length_push has.others has.own in
+    omega arith

@@ -1,21 +1,28 @@
 -- A fiber while it settles: the draft is apart from the fiber, which is as it was until the draft is kept.
-use Rattle.std.specs.Prelude.{◌≡◌, ◌≤◌, [], ◌∷◌, ◌++◌, take, length}
+use Rattle.std.specs.Prelude.{◌≡◌, ◌≤◌, List, [], ◌∷◌, ◌++◌, take, length, Option, Some, None}
 use Rattle.fiber_step.specs.Kept.{Kept}
 use Rattle.fiber_step.specs.Turning.{with_mark}
 use Rattle.fiber_step.specs.declared.draft.Changes.{Changes}
 use Rattle.fiber_step.specs.declared.draft.Taken.{Taken}
 use Rattle.fiber_step.specs.declared.draft.Taken.TheVariants as taken
+use Rattle.fiber_step.specs.declared.item.Item.{Item}
 use Rattle.fiber_step.specs.declared.item.Item.TheVariants as item
+use Rattle.fiber_step.specs.declared.mark.Mark.{Mark}
 
 -- a fiber that was so, and where the draft stands
 pub record Drafted : Type 0 where
   pub fiber : Kept
   pub now : Kept
 
+-- the item of a mark, if there is one
+abbrev pub marked : Option Mark → List Item
+marked None = []
+marked (Some mark) = item.Mark mark ∷ []
+
 -- a fiber with changes
 abbrev pub changed : Kept → Changes → Kept
 changed fiber changes = record {
-  items = take changes.left fiber.items ++ changes.items.items;
+  items = take changes.left fiber.items ++ changes.items.items ++ marked changes.next;
   variables = take changes.kept fiber.variables ++ changes.values.items;
 }
 

@@ -27,8 +27,10 @@ pub(crate) enum Taken {
 #[derive(Drop)]
 pub(crate) struct Changes {
     pub(crate) left: usize,
-    /// The next item last.
+    /// The next item last, but for a mark in `next`.
     pub(crate) items: Vec<Item>,
+    /// The next item, where it is a mark that came since: most settlings leave one such mark, and then `items` takes no memory.
+    pub(crate) next: Option<Mark>,
     pub(crate) kept: usize,
     pub(crate) values: Vec<Value>,
 }
@@ -65,6 +67,7 @@ impl<'f> Draft<'f> {
             changes: Changes {
                 left: fiber.work().len(),
                 items: Vec::new(alloc),
+                next: None,
                 kept: fiber.variables().len(),
                 values: Vec::new(alloc),
             },
@@ -131,7 +134,12 @@ impl<'f> Draft<'f> {
     pub(crate) fn push(&mut self, mark: Mark) -> Result<(), NoMemory>
         ensures { OnOk result (self.new ≡ record self.old { now = record self.old.now { items = self.old.now.items ++ item.Mark mark ∷ [] } }) }
     {
-        self.changes.items.push(Item::Mark(mark))?;
+        if let Some(before) = self.changes.next {
+            self.changes.items.push(Item::Mark(before))?;
+            self.changes.next = Some(mark);
+            return Ok(());
+        }
+        self.changes.next = Some(mark);
         Ok(())
     }
 
@@ -143,6 +151,10 @@ impl<'f> Draft<'f> {
         ensures fiber { OnOk result (self.new.fiber ≡ self.old.fiber) }
         ensures taken { IfOk result (λ it. Takes self.old.now self.new.now it) }
     {
+        if let Some(mark) = self.changes.next {
+            self.changes.next = None;
+            return Ok(Taken::Mark(mark));
+        }
         if let Some(item) = self.changes.items.pop() {
             return match item {
                 Item::Mark(mark) => Ok(Taken::Mark(mark)),

@@ -1,6 +1,7 @@
 //! How a fiber goes into the block of a call that was answered.
 
-ghost use Rattle.std.specs.Prelude.{◌≡◌, ◌<◌, length, List, OnOk, OnErr};
+ghost use Rattle.std.specs.Prelude.{◌≡◌, ◌<◌, ◌≤◌, length, map, List, OnOk, OnErr};
+ghost use Rattle.std.specs.List.{AllByRecursion as Each};
 ghost use Rattle.fiber_step.specs.Entering.{HasBranches};
 ghost use Rattle.fiber_step.specs.Having.{HasStatements};
 ghost use Rattle.fiber_step.specs.Placing.{ArePlaced};
@@ -19,6 +20,21 @@ use crate::mark::Mark;
 use crate::variables::Variables;
 use eio_value::{NoMemory, Value};
 use script_lang::{Node, Script};
+
+/// The blocks of the branches of a form, in the order that they stand in, each by the node that it begins with. The last one is
+/// the one that the caller runs.
+pub fn branch_bodies(script: &Script, form: u32) -> &[u32]
+    requires some { HasBranches (nodes_of script.now) form }
+    requires begin { HasBranchBodies (nodes_of script.now) form }
+    ensures blocks { map (block_at (nodes_of script.now)) result.now ≡ blocks_of (branches_at (nodes_of script.now) form) }
+    ensures begin { Each (HasStatements (nodes_of script.now)) result.now }
+    ensures some { 1 ≤ length result.now }
+{
+    match script.node(form) {
+        Node::Branches { blocks, .. } => blocks.as_slice(),
+        _ => unreachable!(),
+    }
+}
 
 /// The block that the caller runs of the branches of a form.
 fn own_branch(script: &Script, form: u32) -> u32

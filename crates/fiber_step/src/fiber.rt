@@ -139,13 +139,17 @@ impl Fiber {
         ensures err { OnErr result (self.new ≡ self.old) }
     {
         let mut changes = changes;
-        self.work.reserve(changes.items.len())?;
+        self.work.reserve(changes.items.len() + 1)?;
         self.variables.change(changes.kept, &mut changes.values)?;
         self.work.truncate(changes.left);
-        match self.work.append(&mut changes.items) {
-            Ok(()) => Ok(()),
-            Err(_) => unreachable!(),
+        if let Err(_) = self.work.append(&mut changes.items) {
+            unreachable!()
         }
+        let Some(next) = changes.next else {
+            return Ok(());
+        };
+        push_reserved(&mut self.work, Item::Mark(next));
+        Ok(())
     }
 
     /// Goes before a handler of a switch that closes, which has the variables that it was registered with; the fiber's own are

@@ -26,6 +26,7 @@ mod variables;
 
 pub use ask::{Ask, Place};
 pub use bodies::first_node;
+pub use entering::branch_bodies;
 pub use fiber::Fiber;
 pub use item::Item;
 pub use laws::{blocks_keep_variables, ends_stop, marks_agree};

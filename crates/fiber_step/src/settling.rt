@@ -171,11 +171,12 @@ impl Fiber {
         ensures texts { OnErr result (texts.new ≡ texts.old) }
     {
         let before = texts.len();
-        let Ok(call) = self.settle_by_draft(script, texts, serial, came) else {
-            texts.truncate(before);
-            return Err(NoMemory);
-        };
-        Ok(call)
+        let settled = self.settle_by_draft(script, texts, serial, came);
+        if settled.is_ok() {
+            return settled;
+        }
+        texts.truncate(before);
+        settled
     }
 
     /// The same, but that after [`NoMemory`] the texts are still in the table that were put in before it.
@@ -198,10 +199,13 @@ impl Fiber {
     {
         let mut next = *serial;
         let mut draft = Draft::new(self.alloc(), self);
-        let call = draft.settle(script, texts, &mut next, came)?;
+        let settled = draft.settle(script, texts, &mut next, came);
+        if settled.is_err() {
+            return settled;
+        }
         let changes = draft.changes();
         self.keep(changes)?;
         *serial = next;
-        Ok(call)
+        settled
     }
 }
