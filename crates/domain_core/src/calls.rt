@@ -55,47 +55,47 @@ impl Domain {
     }
 
     /// `trace`.
-    pub(crate) fn trace(&mut self, fiber: u32, operands: Operands) -> Told
+    pub(crate) fn trace(&mut self, fiber: u32, operands: Operands, told: &mut Told)
         requires lives { Lives self.old fiber }
         requires room { length self.old.ready < 1024 }
-        ensures answers { (script : Read) → Answers script (Ask.Trace operands) fiber self.old result self.new }
+        ensures answers { (script : Read) → Answers script (Ask.Trace operands) fiber self.old told.new self.new }
         ensures same { SameCounts self.old self.new }
     {
         self.to_head(fiber, Next::GoesOn(Value::Unit));
-        Told {
+        *told = Told {
             fiber,
             did: Did::Trace(operands),
             reply: Said2::Done(Value::Unit),
-        }
+        };
     }
 
     /// `yield`.
-    pub(crate) fn give_way(&mut self, fiber: u32) -> Told
+    pub(crate) fn give_way(&mut self, fiber: u32, told: &mut Told)
         requires lives { Lives self.old fiber }
         requires room { length self.old.ready < 1024 }
-        ensures answers { (script : Read) → Answers script Ask.Yield fiber self.old result self.new }
+        ensures answers { (script : Read) → Answers script Ask.Yield fiber self.old told.new self.new }
         ensures same { SameCounts self.old self.new }
     {
         self.to_back(fiber, Next::LooksUp);
-        Told {
+        *told = Told {
             fiber,
             did: Did::Yield,
             reply: Said2::Back,
-        }
+        };
     }
 
     /// The move in the place of a call that would pass a limit: the domain is halted.
-    fn halt(&mut self, fiber: u32) -> Told
-        ensures told { result ≡ record { fiber = fiber; did = Did.Limit; reply = Said2.Done Value.Unit } }
+    fn halt(&mut self, fiber: u32, told: &mut Told)
+        ensures told { told.new ≡ record { fiber = fiber; did = Did.Limit; reply = Said2.Done Value.Unit } }
         ensures becomes { Becomes (λ l. record l { halted = true }) self.old self.new }
         ensures same { SameCounts self.old self.new }
     {
         self.halted = true;
-        Told {
+        *told = Told {
             fiber,
             did: Did::Limit,
             reply: Said2::Done(Value::Unit),
-        }
+        };
     }
 
     /// `switch`: the fiber goes into the block of a new switch, in a new context.
@@ -107,7 +107,8 @@ impl Domain {
         script: &Script,
         fiber: u32,
         body: u32,
-    ) -> Result<Told, NoMemory>
+        told: &mut Told,
+    ) -> Result<(), NoMemory>
         requires lives { Lives self.old fiber }
         requires body { HasStatements (nodes_of script.now) body }
         requires placed { IsPlacedAt (nodes_of script.now) fiber self.old.fibers }
@@ -115,23 +116,25 @@ impl Domain {
         requires on { IsOn self.old fiber }
         requires few { length self.old.contexts.made < 2 ^ 32 - 1 }
         requires few_switches { length self.old.switches < 2 ^ 32 - 1 }
-        ensures answers { IfOk result (λ told. Answers script.now (Ask.Switch body) fiber self.old told self.new) }
+        ensures answers { OnOk result (Answers script.now (Ask.Switch body) fiber self.old told.new self.new) }
         ensures same { OnOk result (SameCounts self.old self.new) }
     {
         let above = self.fibers.at(fiber).context;
         let Ok(context) = self.contexts.sub(above) else {
-            return Ok(self.halt(fiber));
+            self.halt(fiber, told);
+            return Ok(());
         };
         let switch = self.switches.open(context)?;
         self.fibers.go_to(fiber, context);
         self.fibers
             .enter(fiber, script, &Ask::Switch { body }, switch)?;
         self.to_head(fiber, Next::GoesOn(Value::Unit));
-        Ok(Told {
+        *told = Told {
             fiber,
             did: Did::Switch,
             reply: Said2::Done(Value::Switch(switch)),
-        })
+        };
+        Ok(())
     }
 
     /// Whether nothing is forked onto this switch: it was never opened, has finished, or its context is off.
@@ -158,7 +161,13 @@ impl Domain {
     ///
     /// # Errors
     /// [`NoMemory`] where memory runs out; the domain isn't used again then.
-    pub(crate) fn fork(&mut self, fiber: u32, switch: u64, body: u32) -> Result<Told, NoMemory>
+    pub(crate) fn fork(
+        &mut self,
+        fiber: u32,
+        switch: u64,
+        body: u32,
+        told: &mut Told,
+    ) -> Result<(), NoMemory>
         requires lives { Lives self.old fiber }
         requires room { length self.old.ready + 1 ≤ count_by is_some self.old.fibers }
         requires most { count_by is_some self.old.fibers ≤ 1024 }
@@ -167,32 +176,35 @@ impl Domain {
         requires few_switches { length self.old.switches ≤ 2 ^ 32 }
         requires few { length self.old.fibers < 2 ^ 32 - 1 }
         requires apart { IsAttachedToNone self.old (length self.old.fibers) }
-        ensures answers { IfOk result (λ told. (script : Read) → HasStatements (nodes_of script) body → Answers script (Ask.Fork Forking.Plain switch body) fiber self.old told self.new) }
+        ensures answers { OnOk result ((script : Read) → HasStatements (nodes_of script) body → Answers script (Ask.Fork Forking.Plain switch body) fiber self.old told.new self.new) }
         ensures same { OnOk result (SameCounts self.old self.new) }
     {
         if self.refuses_forks(switch) {
             self.to_head(fiber, Next::GoesOn(Value::Unit));
-            return Ok(Told {
+            *told = Told {
                 fiber,
                 did: Did::Fork(switch as u32),
                 reply: Said2::Nothing,
-            });
+            };
+            return Ok(());
         }
         if self.fibers.live() >= MOST_FIBERS {
-            return Ok(self.halt(fiber));
+            self.halt(fiber, told);
+            return Ok(());
         }
         let switch = switch as u32;
         let new = self.make(fiber, switch, body)?;
         self.to_head(fiber, Next::GoesOn(Value::Unit));
         self.to_head(new, Next::GoesOn(Value::Unit));
-        Ok(Told {
+        *told = Told {
             fiber,
             did: Did::Fork(switch),
             reply: Said2::Fiber {
                 domain: self.number,
                 fiber: new,
             },
-        })
+        };
+        Ok(())
     }
 
     /// A new fiber of this switch, with the variables of the caller; it stands in no list yet.
@@ -225,32 +237,31 @@ impl Domain {
 
     /// `close`, to which no exception came: the fiber waits while others are attached; then the switch is finished, and the fiber runs
     /// in the context above it.
-    pub(crate) fn close(&mut self, fiber: u32, closing: Closing) -> Told
+    pub(crate) fn close(&mut self, fiber: u32, closing: Closing, told: &mut Told)
         requires lives { Lives self.old fiber }
         requires room { length self.old.ready < 1024 }
         requires may { MayClose self.old closing.switch }
-        ensures answers { (script : Read) → Answers script (Ask.Close closing.switch None closing.kept) fiber self.old result self.new }
+        ensures answers { (script : Read) → Answers script (Ask.Close closing.switch None closing.kept) fiber self.old told.new self.new }
         ensures same { SameCounts self.old self.new }
     {
-        let did = Did::Close(closing.switch);
         let context = self.switches.context(closing.switch);
         match self.switches.close_step(closing.switch, fiber) {
             CloseStep::Wait => {
                 self.fibers.stand(fiber, Standing::Parked(closing));
-                Told {
+                *told = Told {
                     fiber,
-                    did,
+                    did: Did::Close(closing.switch),
                     reply: Said2::Waits,
-                }
+                };
             }
             CloseStep::Return => {
                 self.leave(fiber, context);
                 self.to_head(fiber, Next::GoesOn(closing.kept));
-                Told {
+                *told = Told {
                     fiber,
-                    did,
+                    did: Did::Close(closing.switch),
                     reply: Said2::Done(closing.kept),
-                }
+                };
             }
             _ => unreachable!(),
         }
@@ -271,12 +282,12 @@ impl Domain {
     }
 
     /// The end of a fiber, which gives a value.
-    pub(crate) fn end(&mut self, fiber: u32, outcome: Outcome) -> Told
+    pub(crate) fn end(&mut self, fiber: u32, outcome: Outcome, told: &mut Told)
         requires lives { Lives self.old fiber }
         requires room { length self.old.ready < 1024 }
         requires gives { IsGiven outcome }
         requires may { MayEnd self.old fiber }
-        ensures answers { (script : Read) → Answers script (Ask.End outcome) fiber self.old result self.new }
+        ensures answers { (script : Read) → Answers script (Ask.End outcome) fiber self.old told.new self.new }
         ensures same { SameCounts self.old self.new }
     {
         let Outcome::Ok(given) = outcome else {
@@ -292,11 +303,11 @@ impl Domain {
             }
             Role::Switched { switch, .. } => self.detach(fiber, switch),
         }
-        Told {
+        *told = Told {
             fiber,
             did: Did::End,
             reply: Said2::Done(given),
-        }
+        };
     }
 
     /// An attached fiber has ended: it leaves its switch, and who waits there for it and nobody else goes to the back of the ready list.

@@ -70,27 +70,53 @@ impl Domain {
         let Some(fiber) = self.ready.pop() else {
             return Ok(Turn::Idle);
         };
-        let told = self.move_of(script, texts, fiber)?;
-        Ok(Turn::Moved(self.line(told)))
+        let mut told = Told::nothing(fiber);
+        self.move_of(script, texts, fiber, &mut told)?;
+        self.count_line();
+        Ok(Turn::Moved(Line {
+            stamp: self.stamp,
+            domain: self.number,
+            fiber: told.fiber,
+            did: told.did,
+            reply: told.reply,
+        }))
     }
 
     /// The move of the fiber that stood first in the ready list: its silent statements, and its next call.
-    fn move_of(&mut self, script: &Script, texts: &mut Texts, fiber: u32) -> Result<Told, NoMemory>
+    fn move_of(
+        &mut self,
+        script: &Script,
+        texts: &mut Texts,
+        fiber: u32,
+        told: &mut Told,
+    ) -> Result<(), NoMemory>
         requires stands { StandsForSome script.now texts.old (with_head fiber self.old) }
         requires texts { length script.now.texts ≤ length texts.old }
         requires few { self.old.lines < 1000000 }
-        ensures moves { IfOk result (λ told. (l : DomainState) → StandsFor script.now texts.old (with_head fiber self.old) l → MovesOwn script.now texts.new l told self.new) }
+        ensures moves { OnOk result ((l : DomainState) → StandsFor script.now texts.old (with_head fiber self.old) l → MovesOwn script.now texts.new l told.new self.new) }
         ensures same { OnOk result (SameCounts self.old self.new) }
         ensures texts { OnOk result (texts.new ≡ texts.old) }
     {
         let ask = self.next_call(script, texts, fiber)?;
         match ask {
-            Ask::Trace(operands) => Ok(self.trace(fiber, operands)),
-            Ask::Yield => Ok(self.give_way(fiber)),
-            Ask::Switch { body } => self.open_switch(script, fiber, body),
-            Ask::Fork { switch, body, .. } => self.fork(fiber, switch, body),
-            Ask::Close { switch, kept, .. } => Ok(self.close(fiber, Closing { switch, kept })),
-            Ask::End(outcome) => Ok(self.end(fiber, outcome)),
+            Ask::Trace(operands) => {
+                self.trace(fiber, operands, told);
+                Ok(())
+            }
+            Ask::Yield => {
+                self.give_way(fiber, told);
+                Ok(())
+            }
+            Ask::Switch { body } => self.open_switch(script, fiber, body, told),
+            Ask::Fork { switch, body, .. } => self.fork(fiber, switch, body, told),
+            Ask::Close { switch, kept, .. } => {
+                self.close(fiber, Closing { switch, kept }, told);
+                Ok(())
+            }
+            Ask::End(outcome) => {
+                self.end(fiber, outcome, told);
+                Ok(())
+            }
             _ => unreachable!(),
         }
     }
@@ -120,22 +146,13 @@ impl Domain {
         self.fibers
             .settle(fiber, script, texts, &mut self.serial, &Outcome::Ok(came))
     }
-
-    /// What was told becomes a line, which has the next stamp.
-    fn line(&mut self, told: Told) -> Line
+    /// One more line was made, with the next stamp.
+    fn count_line(&mut self)
         requires early { self.old.stamp < 2 ^ 60 }
         requires few { self.old.lines < self.old.budget }
-        ensures line { result ≡ record { stamp = self.old.stamp + 1; domain = self.old.number; fiber = told.fiber; did = told.did; reply = told.reply } }
-        ensures counts { self.new ≡ record self.old { stamp = self.old.stamp + 1; lines = self.old.lines + 1 } }
+        ensures { self.new ≡ record self.old { stamp = self.old.stamp + 1; lines = self.old.lines + 1 } }
     {
         self.stamp += 1;
         self.lines += 1;
-        Line {
-            stamp: self.stamp,
-            domain: self.number,
-            fiber: told.fiber,
-            did: told.did,
-            reply: told.reply,
-        }
     }
 }

@@ -1,7 +1,8 @@
 use Rattle.std.proofs.Common.{subst, arith}
+use Rattle.std.proofs.lemmas.Result.{on_ok_weaker}
 use Rattle.script_lang.specs.Flat.{nodes_of}
 use Rattle.fiber_step.specs.Stepping.{HasBodiesOf}
-use Rattle.domain_core.proofs.Moving.{is_at, is_built, first_call, lives, room, on, few_contexts, few_switches, few_fibers, room_for_one, most, fork_number, live_contexts, apart, may_close, may_give, may_be_ended, texts_stay, moves_by, moves_closing, moves_forking, if_ok, on_ok}
+use Rattle.domain_core.proofs.Moving.{is_at, is_built, first_call, lives, room, on, few_contexts, few_switches, few_fibers, room_for_one, most, fork_number, live_contexts, apart, may_close, may_give, may_be_ended, texts_stay, moves_by, moves_closing, moves_forking, on_ok}
 use Rattle.domain_core.proofs.domain.Domain.move_of.Goals as goal
 
 pub trace-requires-clause-lives : goal.trace-requires-clause-lives
@@ -112,9 +113,9 @@ pub returns-in-End-clause-moves : goal.returns-in-End-clause-moves
 returns-in-End-clause-moves c l stands = moves_by (is_at c.args.self.now (l, stands) c.in_ok-ask.ensures.calls) _ c.in-End.is _ c.end.new.self (c.end.ensures.answers c.args.script.now)
 
 pub returns-in-Switch-clause-moves : goal.returns-in-Switch-clause-moves
-returns-in-Switch-clause-moves c = if_ok c.open_switch.result _ _ (λ told answers l stands. moves_by (is_at c.args.self.now (l, stands) c.in_ok-ask.ensures.calls) _ c.in-Switch.is told c.open_switch.new.self answers) c.open_switch.ensures.answers
+returns-in-Switch-clause-moves c = on_ok_weaker c.open_switch.result (λ answers l stands. moves_by (is_at c.args.self.now (l, stands) c.in_ok-ask.ensures.calls) _ c.in-Switch.is _ c.open_switch.new.self answers) c.open_switch.ensures.answers
 
 pub returns-in-Fork-clause-moves : goal.returns-in-Fork-clause-moves
 returns-in-Fork-clause-moves c = (
     let begins = subst (λ call. HasBodiesOf (nodes_of c.args.script.now) call) c.in-Fork.is c.in_ok-ask.ensures.bodies in
-    if_ok c.fork.result _ _ (λ told answers l stands. moves_forking (is_at c.args.self.now (l, stands) c.in_ok-ask.ensures.calls) _ _ _ c.in-Fork.is told c.fork.new.self (answers c.args.script.now begins)) c.fork.ensures.answers)
+    on_ok_weaker c.fork.result (λ answers l stands. moves_forking (is_at c.args.self.now (l, stands) c.in_ok-ask.ensures.calls) _ _ _ c.in-Fork.is _ c.fork.new.self (answers c.args.script.now begins)) c.fork.ensures.answers)

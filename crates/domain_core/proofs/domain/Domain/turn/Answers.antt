@@ -20,10 +20,10 @@ pub returns-clause-turns : goal.returns-clause-turns
 returns-clause-turns g c = (
     let none : c.receive.result ≡ None = no_message _ _ c.receive.result c.receive.ensures.waited c.receive.ensures.fits c.requires.objects.waits c.requires.objects.submits in
     made_turn g.O.Objects.calls g.O.Objects.strikes g.O.Objects.receives g.O.Extras.extras g.O.Extras.learns c.args.script.now c.args.texts.now c.move_of.new.texts _ c.args.self.now
-    c.in-Some.fiber c.pop.new.self.fibers c.in_ok-told.told c.move_of.new.self c.line.result c.line.new.self c.args.objects.now c.receive.new.self
-    c.requires.built c.self.view_is (sym c.pop.ensures.fiber ∙ c.in-Some.is) (ap (λ r. r.fibers) c.pop.ensures.others) c.in_ok-told.ensures.moves c.in_ok-told.ensures.same c.in_ok-told.ensures.texts
+    c.in-Some.fiber c.pop.new.self.fibers c.move_of.new.told c.move_of.new.self _ c.count_line.new.self c.args.objects.now c.receive.new.self
+    c.requires.built c.self.view_is (sym c.pop.ensures.fiber ∙ c.in-Some.is) (ap (λ r. r.fibers) c.pop.ensures.others) c.in_ok-move_of.ensures.moves c.in_ok-move_of.ensures.same c.in_ok-move_of.ensures.texts
     c.if-self.false c.if-self-2.false (subst (λ (m : Option Message). g.O.Objects.receives c.args.objects.now m c.receive.new.self) none c.receive.ensures.does)
-    c.line.ensures.line c.line.ensures.counts)
+    (ap (λ (k : KeptDomain). record { stamp = k.stamp; domain = k.number; fiber = c.move_of.new.told.fiber; did = c.move_of.new.told.did; reply = c.move_of.new.told.reply }) (c.self-2.view_is ∙ c.count_line.ensures)) c.count_line.ensures)
 
 pub returns-clause-stands : goal.returns-clause-stands
 returns-clause-stands g c = (let then = (returns-clause-turns g c).5 c.requires.stands.0 c.requires.stands.1 in (then.0, then.1))
