@@ -9,7 +9,7 @@ use Rattle.script_model.specs.declared.Command.{Command}
 use Rattle.script_model.specs.declared.Command.TheVariants as command
 use Rattle.script_model.specs.declared.Feature.TheVariants as feature
 use Rattle.script_model.specs.Features.{is_built}
-use Rattle.script_model.specs.Limits.{most_lines, most_load, most_steps}
+use Rattle.script_model.specs.Limits.{most_lines, most_load}
 use Rattle.script_model.specs.Today.{built_today}
 use Rattle.script_model.specs.Words.{Asked, asked, asks_number, number_of, option_value, mock_words, domains_words, lone_word, load_words, meaning}
 use Rattle.eio_run.specs.Words.{only_if, if_built}
@@ -77,19 +77,6 @@ load_unbuilt : (words : List (List ℕ)) → if_built (load_words words) ≡ Non
 load_unbuilt [] = refl
 load_unbuilt (word ∷ []) = load_number_unbuilt (number_of most_load word)
 load_unbuilt (word ∷ another ∷ words) = refl
-
-steps_unbuilt : (n : Option ℕ) → if_built (asks_number feature.Steps command.Mock n) ≡ None
-steps_unbuilt None = refl
-steps_unbuilt (Some n) = refl
-
-steps_by : (value : Option (List ℕ)) → if_built (elim value [ None ↦ None | Some v ↦ asks_number feature.Steps command.Mock (number_of most_steps v) ]) ≡ None
-steps_by None = refl
-steps_by (Some v) = steps_unbuilt (number_of most_steps v)
-
--- `mock` with words behind it
-pub more_than_mock : {A : Type 0} (f : A → List ℕ) (xs : List A) → xs ≢ [] → None ≡ if_built (mock_words (map f xs))
-more_than_mock f [] some = absurd (some refl)
-more_than_mock f (x ∷ xs) some = sym (steps_by (option_value (codes "--steps") (f x ∷ map f xs)))
 
 -- ## Other names
 

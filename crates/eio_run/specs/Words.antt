@@ -1,5 +1,5 @@
 -- What words ask for, where it is built.
-use Rattle.std.specs.Prelude.{◌≡◌, Bool, true, false, Option, Some, None}
+use Rattle.std.specs.Prelude.{◌<◌, ◌≤◌, Bool, true, false, Option, Some, None}
 use Rattle.script_model.specs.declared.Command.{Command}
 use Rattle.script_model.specs.declared.Command.TheVariants as command
 use Rattle.script_model.specs.Features.{is_built}
@@ -15,10 +15,10 @@ abbrev pub if_built : Option Asked → Option Command
 if_built None = None
 if_built (Some it) = only_if (is_built built_today it.feature) it.command
 
--- the commands that are built: `mock` with all its moves, `check` and `print`
+-- the commands that are built: `mock` in so many moves, at most all of them; `check` and `print`
 abbrev pub IsOfToday : Option Command → Type 0
 IsOfToday None = Unit {0}
-IsOfToday (Some (command.Mock steps)) = steps ≡ most_steps
+IsOfToday (Some (command.Mock steps)) = (0 < steps) × (steps ≤ most_steps)
 IsOfToday (Some (command.Domains lines)) = ⊥
 IsOfToday (Some command.Check) = Unit {0}
 IsOfToday (Some command.Print) = Unit {0}

@@ -6,6 +6,8 @@
 
 #[cfg(test)]
 mod examples;
+mod rest;
+mod steps;
 #[cfg(test)]
 mod tests;
 mod top;

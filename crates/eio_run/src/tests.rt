@@ -54,10 +54,12 @@ fn worked_scripts(rt: HostRuntime) -> Result<(), Fail> {
             Status::Ok,
         ),
         (examples::FIRST, examples::FIRST_TRACE, Status::Ok),
-        ("(eio 1 (main (check)))", "!Refused\n", Status::Refused),
-        ("( eio 1 (main))", "!Refused\n", Status::Refused),
-        ("(eio 1 (main (fork s)))", "!Refused\n", Status::Refused),
-        ("", "!Refused\n", Status::Refused),
+        (
+            examples::FORK_AND_SWITCH,
+            examples::FORK_AND_SWITCH_TRACE,
+            Status::Ok,
+        ),
+        ("( eio 1;c\n (main))", "", Status::Ok),
     ];
     let words = words_of(rt.alloc(), "mock")?;
     for (input, text, status) in rows {
@@ -69,6 +71,127 @@ fn worked_scripts(rt: HostRuntime) -> Result<(), Fail> {
             assert_eq!(rt; sink.held(), text.as_bytes(), "{input}");
             assert_eq!(rt; source.left.len(), 0, "{input}");
         }
+    }
+    Ok(())
+}
+
+#[test]
+fn refusals_of_mock(rt: HostRuntime) -> Result<(), Fail> {
+    // The input, and the line that is written: of the tree, of the script, for a second body, and last for a form that isn't built.
+    let rows = [
+        ("", "!Refused Unclosed at 0\n"),
+        (
+            "(eio 1 (main (check)) (domain)) x",
+            "!Refused Stray at 32\n",
+        ),
+        (
+            "(eio 1 (main (check) (take s)) (domain))",
+            "!Refused Name at 27\n",
+        ),
+        ("(eio 1 (main (trace \"ab", "!Refused Unclosed at 20\n"),
+        ("(eio 1 (main (frace \"x\")))", "!Refused Shape at 13\n"),
+        ("(eio 1 (main (take s)))", "!Refused Name at 19\n"),
+        ("(eio 1 (main (fork s)))", "!Refused Name at 19\n"),
+        ("(eio 1 (main) (domain))", "!Refused DomainOnly at 14\n"),
+        (
+            "(eio 1 (main (check)) (domain))",
+            "!Refused DomainOnly at 22\n",
+        ),
+        ("(eio 1 (main (check)))", "!Refused Unbuilt at 13\n"),
+        ("(eio 1 (main (trace 5)))", "!Refused Unbuilt at 13\n"),
+        ("(eio 1 (stream s 1) (main))", "!Refused Unbuilt at 7\n"),
+    ];
+    for line in ["mock", "mock --steps 1"] {
+        let words = words_of(rt.alloc(), line)?;
+        for (input, text) in rows {
+            let mut source = source_of(rt.alloc(), input, 7, 0)?;
+            let mut sink = MemSink::new(rt.alloc(), ROOM, 7, Vec::new(rt.alloc()))?;
+            let found = eio_run(&rt, rt.alloc(), &words, &mut source, &mut sink, &OpenGate);
+            assert_eq!(rt; found, Status::Refused, "{line} {input}");
+            assert_eq!(rt; sink.held(), text.as_bytes(), "{line} {input}");
+            assert_eq!(rt; source.left.len(), 0, "{line} {input}");
+        }
+    }
+    Ok(())
+}
+
+#[test]
+fn budgets(rt: HostRuntime) -> Result<(), Fail> {
+    // A run of ten moves.
+    let ten =
+        "(eio 1 (main (switch s (fork s (trace \"x\") (yield) (trace \"z\")) (trace \"y\"))))";
+    // Nine traces, and the end of main.
+    let nine =
+        "(eio 1 (main (trace \"1\") (trace \"2\") (trace \"3\") (trace \"4\") (trace \"5\") (trace \"6\") (trace \"7\") (trace \"8\") (trace \"9\")))";
+    let traced = "+1\n+2\n+3\n+4\n+5\n+6\n+7\n+8\n+9\n";
+    let cut = "+1\n+2\n+3\n+4\n+5\n+6\n+7\n+8\n+9\n!Out_of_steps\n";
+    // The words and the input; what is written, and the status.
+    let rows = [
+        ("mock --steps 10", nine, traced, Status::Ok),
+        ("mock --steps 9", nine, cut, Status::OutOfSteps),
+        ("mock --steps 10", ten, "+x\n+y\n+z\n", Status::Ok),
+        ("mock --steps=10", ten, "+x\n+y\n+z\n", Status::Ok),
+        ("mock --steps 1000000", ten, "+x\n+y\n+z\n", Status::Ok),
+        (
+            "mock --steps 9",
+            ten,
+            "+x\n+y\n+z\n!Out_of_steps\n",
+            Status::OutOfSteps,
+        ),
+        (
+            "mock --steps=9",
+            ten,
+            "+x\n+y\n+z\n!Out_of_steps\n",
+            Status::OutOfSteps,
+        ),
+        (
+            "mock --steps 4",
+            ten,
+            "+x\n!Out_of_steps\n",
+            Status::OutOfSteps,
+        ),
+        ("mock --steps 1", "(eio 1 (main))", "", Status::Ok),
+        ("mock --steps 2", "(eio 1 (main (yield)))", "", Status::Ok),
+        (
+            "mock --steps 1",
+            "(eio 1 (main (yield)))",
+            "!Out_of_steps\n",
+            Status::OutOfSteps,
+        ),
+    ];
+    for (line, input, text, status) in rows {
+        let words = words_of(rt.alloc(), line)?;
+        let mut source = source_of(rt.alloc(), input, 7, 0)?;
+        let mut sink = MemSink::new(rt.alloc(), ROOM, 7, Vec::new(rt.alloc()))?;
+        let found = eio_run(&rt, rt.alloc(), &words, &mut source, &mut sink, &OpenGate);
+        assert_eq!(rt; found, status, "{line} {input}");
+        assert_eq!(rt; sink.held(), text.as_bytes(), "{line} {input}");
+    }
+    Ok(())
+}
+
+/// A script whose main forks so many fibers that live at once.
+fn forks(alloc: Global, count: u32) -> Result<String, AllocError> {
+    let mut script = String::from_str(alloc, "(eio 1 (main (switch s")?;
+    for _ in 0..count {
+        script.push_str(" (fork s (yield))")?;
+    }
+    script.push_str(")))")?;
+    Ok(script)
+}
+
+#[test]
+fn live_fibers(rt: HostRuntime) -> Result<(), Fail> {
+    // How many fibers are forked; what is written, and the status. Main is one more.
+    let rows = [(1_023, "", Status::Ok), (1_024, "!Limit\n", Status::Limit)];
+    let words = words_of(rt.alloc(), "mock")?;
+    for (count, text, status) in rows {
+        let script = forks(rt.alloc(), count)?;
+        let mut source = source_of(rt.alloc(), &script, 4096, 0)?;
+        let mut sink = MemSink::new(rt.alloc(), ROOM, 7, Vec::new(rt.alloc()))?;
+        let found = eio_run(&rt, rt.alloc(), &words, &mut source, &mut sink, &OpenGate);
+        assert_eq!(rt; found, status, "{count}");
+        assert_eq!(rt; sink.held(), text.as_bytes(), "{count}");
     }
     Ok(())
 }
@@ -227,10 +350,29 @@ fn words_without_a_meaning(rt: HostRuntime) -> Result<(), Fail> {
         "",
         "mack",
         "mock mock",
+        "mock 5",
+        "mock --steps",
+        "mock --steps=",
         "mock --steps 0",
+        "mock --steps=0",
         "mock --steps 01",
-        "mock --steps 5",
-        "mock --steps=5",
+        "mock --steps +5",
+        "mock --steps=+5",
+        "mock --steps -5",
+        "mock --steps 5x",
+        "mock --steps 1000001",
+        "mock --steps 5000000000",
+        "mock --steps 1 --steps 2",
+        "mock --steps=1 --steps",
+        "mock --steps --steps=5",
+        "mock --steps 5 5",
+        "mock --steps 5 --",
+        "mock --steps --",
+        "mock -- --steps 5",
+        "mock --Steps 5",
+        "mock --step 5",
+        "mock --steps5",
+        "mock -s 5",
         "mock --",
         "mock -- x",
         "mock --help",
@@ -238,6 +380,8 @@ fn words_without_a_meaning(rt: HostRuntime) -> Result<(), Fail> {
         "-h",
         "--help",
         "check check",
+        "check --steps 5",
+        "print --steps=5",
         "check x",
         "check --",
         "check -- x",
@@ -272,9 +416,9 @@ fn words_without_a_meaning(rt: HostRuntime) -> Result<(), Fail> {
 fn longer_inputs_than_are_accepted(rt: HostRuntime) -> Result<(), Fail> {
     // The command, how many blanks there are, how many of them are left, and what is written.
     let rows = [
-        ("mock", 262_144, 0, "!Refused\n"),
-        ("mock", 262_145, 0, "!Refused\n"),
-        ("mock", 262_150, 5, "!Refused\n"),
+        ("mock", 262_144, 0, "!Refused Unclosed at 262144\n"),
+        ("mock", 262_145, 0, "!Refused Size at 262144\n"),
+        ("mock", 262_150, 5, "!Refused Size at 262144\n"),
         ("check", 262_144, 0, "!Refused Unclosed at 262144\n"),
         ("check", 262_145, 0, "!Refused Size at 262144\n"),
         ("check", 262_150, 5, "!Refused Size at 262144\n"),

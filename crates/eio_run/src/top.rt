@@ -1,10 +1,10 @@
 //! The top call. It owns no rule of its own: words are read here, and a command's own crate does the rest.
 ghost use Rattle.std.specs.Prelude.{◌≡◌, ◌≤◌, ◌↔◌, map, IfSome, None};
 ghost use Rattle.std.specs.String.{string_bytes};
-ghost use Rattle.trace_out.specs.Outcome.{ReadsFor, HasItsCause, CanCome};
+ghost use Rattle.trace_out.specs.Outcome.{ReadsFor, HasItsCause};
 ghost use Rattle.script_model.specs.Today.{built_today};
 ghost use Rattle.script_model.specs.Words.{meaning};
-ghost use Rattle.eio_run.specs.Answers.{due_to, Writes};
+ghost use Rattle.eio_run.specs.Answers.{due_to, Writes, CanComeOf};
 
 use crate::words::command_of;
 use mock_backend::mock_run;
@@ -18,7 +18,7 @@ use trace_out::{Gate, Sink, Source, Status};
 /// Does what `words`, those behind the program's name, ask for: reads an input from `source`, writes what is answered to
 /// `sink`, and returns how it ended.
 ///
-/// The commands today are `mock`, which runs a script on one mocked domain; `check`, which says whether the input is a script of the
+/// The commands today are `mock`, which runs a script on one mocked domain, in at most as many moves as its option says; `check`, which says whether the input is a script of the
 /// notation; and `print`, which writes such a script in its canonical spelling. Words without a meaning are answered by `Usage`
 /// before anything is read. At most 262,145 bytes are read. The gate is never asked by these commands.
 ///
@@ -46,8 +46,8 @@ pub fn eio_run<R: Threads + Wait + Sync, S: Source, K: Sink, G: Gate>(
     ensures source_later { S.faults source.old ≤ S.faults source.new }
     ensures sink_later { K.faults sink.old ≤ K.faults sink.new }
 
-    // No script of the forms that are run waits for ever, raises, passes a limit or runs out of steps.
-    ensures over { CanCome result }
+    // No form that is run raises. `check` and `print` run nothing, so that none of the statuses of a run comes of them.
+    ensures over { CanComeOf (meaning built_today (map string_bytes words.now)) result }
 {
     match command_of(alloc, words) {
         None => Status::Usage,

@@ -15,9 +15,9 @@ const MOST_READ: usize = 262_145;
 
 /// The commands, below the line that says that the words have no meaning.
 const SYNOPSIS: &str = "eio-run: usage
-  eio-run mock    runs the script on standard input
-  eio-run check   says whether standard input is a script
-  eio-run print   writes the script on standard input in its canonical spelling";
+  eio-run mock [--steps N]   runs the script on standard input, in at most N moves
+  eio-run check              says whether standard input is a script
+  eio-run print              writes the script on standard input in its canonical spelling";
 
 /// Shows the commands.
 pub(crate) fn show_usage(rt: &impl Eprint) {

@@ -1,23 +1,66 @@
--- How a run ends while a fiber can still move.
-use Rattle.std.proofs.Common.{◌≡◌, ℕ, List, Option, Some, None, MatchOption, is_some, Bool, true, false, ap, sym, ◌∙◌}
+-- How a run ends, by what is asked of its domain.
+use Rattle.std.proofs.Common.{◌≡◌, Bool, true, false, Option, Some, None, refl, ap, sym, ◌∙◌}
+use Rattle.std.specs.Prelude.{is_some}
 use Rattle.std.proofs.lemmas.Bool.{false≢true}
-use Rattle.first_model.specs.declared.Ending.{Ending}
-use Rattle.first_model.specs.declared.Ending.TheVariants as ending
-use Rattle.first_model.specs.Machine.{State, Moved, move}
-use Rattle.first_model.specs.Answer.{ending_in, has_main_ended}
-use Rattle.script_lang.specs.Pieces.{Piece}
-use Rattle.mock_backend.specs.Kept.{Kept, state_of}
-use Rattle.mock_backend.specs.Moves.{IsHead}
-use Rattle.mock_backend.proofs.Heads.{head_moves}
+use Rattle.eio_value.specs.declared.raised.Outcome.{Outcome}
+use Rattle.eio_value.specs.declared.raised.Outcome.TheVariants as outcome
+use Rattle.eio_value.specs.declared.raised.Raised.{Raised}
+use Rattle.script_model.specs.Scripts.{Script}
+use Rattle.machine_model.specs.declared.Ending.{Ending}
+use Rattle.machine_model.specs.declared.Ending.TheVariants as ending
+use Rattle.machine_model.specs.Domain.{Ready, Parked, Ended, Standing, DomainState, fiber_at}
+use Rattle.machine_model.specs.Mock.{Mock, Moved, move, can_move}
+use Rattle.machine_model.specs.Trace.{body_end, ending_by, ending_in}
+use Rattle.run_laws.proofs.Moves.{moves_where_something_is_left}
+use Rattle.domain_core.specs.FirstStates.{IsFirstState, IsFirstStanding}
 
--- the ending of a state that isn't halted, from its next move
-abbrev ended_by : State → Option Moved → Ending
-ended_by s next = elim next [ Some moved ↦ ending.OutOfSteps | None ↦ elim (has_main_ended s) [ true ↦ ending.Ok | false ↦ ending.Deadlock ] ]
+module _ (script : Script) (m : Mock) where
+  by_move : Option Moved → Ending
+  by_move first = elim first [ Some moved ↦ ending.OutOfSteps | None ↦ ending_by (body_end m.local) ]
 
-going_on : (s : State) → s.halted ≡ false → ending_in s ≡ ended_by s (move s)
-going_on s going = ap (λ (b : Bool). let e : Ending = elim b [ true ↦ ending.Limit | false ↦ ended_by s (move s) ] in e) going
+  by_limit : Bool → Ending
+  by_limit halted = elim halted [ true ↦ ending.Limit | false ↦ by_move (move script m) ]
 
-pub out_of_steps : (P : Type 0) (head : Option ℕ) (kept : Kept) → is_some head ≡ true → MatchOption head P (λ g. IsHead g kept) → (pieces : List Piece) → ending.OutOfSteps ≡ ending_in (state_of pieces kept)
-out_of_steps P None kept some ensured pieces = absurd (false≢true some)
-out_of_steps P (Some g) kept some ensured pieces =
-    sym (going_on (state_of pieces kept) ensured.going ∙ ap (ended_by (state_of pieces kept)) (head_moves pieces kept ensured))
+  ending_is : ending_in script m ≡ by_limit m.local.halted
+  unfolding by_limit by_move
+  ending_is = refl
+
+  pub limit_is : m.local.halted ≡ true → ending.Limit ≡ ending_in script m
+  unfolding by_limit
+  limit_is halted = sym (ending_is ∙ ap by_limit halted)
+
+  going_is : m.local.halted ≡ false → ending_in script m ≡ by_move (move script m)
+  unfolding by_limit
+  going_is going = ending_is ∙ ap by_limit going
+
+  some_is : (first : Option Moved) → is_some first ≡ true → by_move first ≡ ending.OutOfSteps
+  unfolding by_move
+  some_is (Some moved) is = refl
+  some_is None is = absurd (false≢true is)
+
+  none_is : (first : Option Moved) → is_some first ≡ false → by_move first ≡ ending_by (body_end m.local)
+  unfolding by_move
+  none_is None is = refl
+  none_is (Some moved) is = absurd (false≢true (sym is))
+
+  pub out_is : m.local.halted ≡ false → can_move m.local ≡ true → ending.OutOfSteps ≡ ending_in script m
+  out_is going more = sym (going_is going ∙ some_is (move script m) (moves_where_something_is_left script m ∙ more))
+
+  pub still_is : (came : Option Outcome) → m.local.halted ≡ false → can_move m.local ≡ false → body_end m.local ≡ came → ending_by came ≡ ending_in script m
+  still_is came going still body = sym (going_is going ∙ (none_is (move script m) (moves_where_something_is_left script m ∙ still) ∙ ap ending_by body))
+
+-- no body of the forms that are built ends with an exception
+pub never_raised : (l : DomainState) → IsFirstState l → (raised : Raised) → body_end l ≡ Some (outcome.Err raised) → ⊥
+never_raised l first raised is = by (fiber_at l.fibers 0).standing (first.stand 0) is
+  where
+    none_some : {A : Type 0} (x : A) → None ≡ Some x → ⊥
+    none_some x e = cc
+
+    ok_err : {A : Type 0} (x y : A) → ◌≡◌ {A = Option A} (Some x) (Some y) → x ≡ y
+    ok_err x y e = cc
+
+    by : (standing : Standing) → IsFirstStanding standing → ◌≡◌ {A = Option Outcome} (elim standing [ Ended it ↦ Some it | Ready next ↦ None | Parked wait ↦ None ]) (Some (outcome.Err raised)) → ⊥
+    by (Ready next) may e = none_some _ e
+    by (Parked wait) may e = none_some _ e
+    by (Ended (outcome.Ok it)) may e = cc
+    by (Ended (outcome.Err other)) may e = absurd may

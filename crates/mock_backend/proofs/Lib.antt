@@ -1,13 +1,11 @@
-pub mod Items
-pub mod NextCall
-pub mod Detaching
-pub mod Callers
-pub mod Heads
-pub mod Yields
-pub mod Opens
-pub mod Forks
-pub mod Closes
-pub mod Ends
+pub mod Undeclared
+pub mod Runs
 pub mod Endings
+pub mod Inputs
+pub mod NodeTexts
+pub mod TracedTexts
+pub mod Untraced
+pub mod Tracing
 pub mod Running
 pub mod Answered
+mod DueRows

@@ -1,6 +1,4 @@
-pub mod Kept
-pub mod Calls
-pub mod Switches
-pub mod Moves
+pub mod Due
 pub mod Faults
-pub mod Trace
+pub mod Objects
+pub mod Scripts

@@ -1,17 +1,19 @@
-//! The mock backend: one domain whose outside is mocked. It runs a script of fibers and writes its trace.
+//! The command `mock` over the engine: a script runs on one domain whose outside is mocked, and its trace is written as it comes.
 //!
-//! [`mock_run`] goes from bytes to bytes: [`read_input`](trace_out::read_input) reads the input, [`respond`] makes a script of it or refuses it, [`run`] runs the
-//! script and writes each line as it comes, and [`machine`] makes its moves. Each says in its contract what the definitions
-//! of `first_model` give.
+//! [`mock_run`] goes from a source's bytes to a sink's and a status. [`script`] makes the script of an input, or finds why it is refused;
+//! [`run`] turns a [`Domain`](domain_core::Domain) until it stands still, over the objects of [`local`]; [`respond`] joins these. Each says
+//! in its contract what the definitions of `machine_model` give.
 #![tactic(auto)]
 
 mod fault;
-mod fiber;
-mod line;
-mod machine;
+mod local;
 mod mock;
 mod respond;
 mod run;
-mod switch;
+mod script;
+#[cfg(test)]
+mod tests;
+mod trace;
 
+pub use local::{Declared, Local};
 pub use mock::mock_run;

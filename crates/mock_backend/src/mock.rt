@@ -1,15 +1,14 @@
-//! The mock backend's one call: from a source's bytes to a sink's and a status.
+//! The command `mock`, from a source's bytes to a sink's and a status.
 //!
-//! [`mock_run`] carries the headline's first half, which the top call hands on: its clauses say what is read, what is written
-//! and which status is answered, for every source and sink.
-ghost use Rattle.std.specs.Prelude.{◌≡◌, ◌≢◌, ◌≤◌, IfSome};
-ghost use Rattle.trace_out.specs.Outcome.{ReadsFor, WritesFor, HasItsCause, CanCome};
-ghost use Rattle.first_model.specs.Answer.{answer};
-ghost use Rattle.first_model.specs.Outcome.{ended, due};
+//! [`mock_run`] says what is read, what is written and which status is answered, for every source and sink.
+ghost use Rattle.std.specs.Prelude.{◌≡◌, ◌≢◌, ◌<◌, ◌≤◌, IfSome};
+ghost use Rattle.machine_model.specs.Answers.{ended};
+ghost use Rattle.trace_out.specs.Outcome.{ReadsFor, WritesFor, HasItsCause};
+ghost use Rattle.mock_backend.specs.Due.{answer_to, due};
 
 use crate::fault::RunFault;
 use crate::respond::respond;
-use first_model::Ending;
+use machine_model::Ending;
 use std::alloc::Global;
 use trace_out::{InputError, Sink, Source, Status, read_input};
 
@@ -30,20 +29,22 @@ fn to_status(ending: Ending) -> Status
 /// Reads a script from `source`, runs it on one mocked domain for at most `steps` moves, writes its trace to `sink` as it comes,
 /// and returns how it ended. It waits for nobody and always returns.
 ///
-/// At most 262,145 bytes are read, one more than an accepted input has. `ReadFault` comes where the source failed, and then
-/// nothing was written. `WriteFault` comes where the sink failed, and `NoMemory` where memory was refused: then a front of the
-/// text was written.
+/// At most 262,145 bytes are read, one more than an accepted input has. `Limit` comes where more fibers or contexts would be live than may
+/// be; else `OutOfSteps` exactly where `steps` moves were made and one more is possible. `ReadFault` comes where the source failed, and
+/// then nothing was written. `WriteFault` comes where the sink failed, and `NoMemory` where memory was refused: then a front of the text
+/// was written.
 pub fn mock_run<S: Source, K: Sink>(
     alloc: Global,
     source: &mut S,
     sink: &mut K,
     steps: u32,
 ) -> Status
-    requires { steps ≡ 1000000 }
+    requires some { 0 < steps }
+    requires most { steps ≤ 1000000 }
 
     // What is read and written at each answer, where source and sink tell their bytes.
     ensures read { ReadsFor result (S.left source.old) (S.left source.new) }
-    ensures text { IfSome (S.left source.old) (λ bytes. WritesFor result (due (answer steps bytes)) (K.held sink.old) (K.held sink.new)) }
+    ensures text { IfSome (S.left source.old) (λ bytes. WritesFor result (due (answer_to steps bytes)) (K.held sink.old) (K.held sink.new)) }
     ensures unwritten { result ≡ Status.ReadFault → sink.new ≡ sink.old }
 
     // A fault has its cause in the device's count, which never falls.
@@ -51,9 +52,9 @@ pub fn mock_run<S: Source, K: Sink>(
     ensures source_later { S.faults source.old ≤ S.faults source.new }
     ensures sink_later { K.faults sink.old ≤ K.faults sink.new }
 
-    // No words are read here, and no script of these forms waits for ever, raises, passes a limit or runs out of steps.
+    // No words are read here, and no form that is built raises.
     ensures asked { result ≢ Status.Usage }
-    ensures over { CanCome result }
+    ensures calm { result ≢ Status.Raised }
 {
     let input = match read_input(alloc, source) {
         Ok(input) => input,

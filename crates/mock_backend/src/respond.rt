@@ -1,62 +1,90 @@
-//! The answer to an input: the trace of the script that it is, or its refusal.
+//! The answer to an input: the trace of the script that it is with the line behind it, or the line of its refusal.
 //!
 //! [`respond`] says that the text and the ending are the definition's answer to these bytes.
-ghost use Rattle.std.specs.Prelude.{◌≡◌, IfOk};
-ghost use Rattle.first_model.specs.Answer as model;
-ghost use Rattle.first_model.specs.Answer.{answer};
+ghost use Rattle.std.specs.Prelude.{◌≡◌, ◌≢◌, ◌<◌, ◌≤◌, IfOk};
+ghost use Rattle.machine_model.specs.Answers.{ran};
+ghost use Rattle.machine_model.specs.Mock.{Mock};
+ghost use Rattle.machine_model.specs.Trace as model;
+ghost use Rattle.script_input.specs.Refusals.{line_of};
+ghost use Rattle.mock_backend.specs.Due.{answer_to};
 ghost use Rattle.mock_backend.specs.Faults.{HasRunCause, WritesText};
-ghost use Rattle.mock_backend.specs.Trace.{trace_of};
+ghost use Rattle.mock_backend.specs.Scripts.{IsRun};
 
 use crate::fault::RunFault;
 use crate::run::run_script;
-use first_model::Ending;
-use script_lang::small::{SmallFault, read_small};
+use crate::script::mocked_script;
+use machine_model::Ending;
+use script_input::{InputFault, Refusal, refusal_line};
+use script_lang::Script;
 use std::alloc::Global;
 use trace_out::{Sink, write_all};
 
-/// The line behind the trace; none where the run came to its end.
+/// The line behind the trace; none where the run came to its end. No form that is built raises.
 fn last_line(ending: Ending) -> &'static [u8]
-    ensures { result.now ≡ model.last_line ending }
+    requires { ending ≢ Ending.Raised }
+    ensures { (m : Mock) → result.now ≡ model.last_line ending m }
 {
     match ending {
-        Ending::Ok | Ending::Raised => b"",
-        Ending::Refused => b"!Refused\n",
+        Ending::Ok | Ending::Refused => b"",
+        Ending::Raised => unreachable!(),
         Ending::Deadlock => b"!Deadlock_detected\n",
         Ending::OutOfSteps => b"!Out_of_steps\n",
         Ending::Limit => b"!Limit\n",
     }
 }
 
-/// Runs the script that an input is, or refuses it, and returns how it ended. Only the trace is written.
-fn run_input<K: Sink>(
+/// Runs a script, writes its trace and the line behind it, and returns how it ended.
+fn answer_script<K: Sink>(
     alloc: Global,
-    input: &[u8],
+    script: &Script,
     sink: &mut K,
     steps: u32,
 ) -> Result<Ending, RunFault>
-    ensures ending { IfOk result (λ ending. ending ≡ (answer steps input.now).ending) }
-    ensures text { WritesText (K.held sink.old) (K.held sink.new) (trace_of steps input.now) result }
+    requires some { 0 < steps }
+    requires most { steps ≤ 1000000 }
+    requires script { IsRun script.now }
+    ensures ending { IfOk result (λ ending. ending ≡ (ran script.now steps).ending) }
+    ensures calm { IfOk result (λ ending. ending ≢ Ending.Raised) }
+    ensures text { WritesText (K.held sink.old) (K.held sink.new) (ran script.now steps).text result }
     ensures cause { HasRunCause (K.faults sink.old) (K.faults sink.new) result }
 {
-    match read_small(alloc, input) {
-        Ok(script) => run_script(alloc, &script, sink, steps),
-        Err(SmallFault::Refused) => Ok(Ending::Refused),
-        Err(SmallFault::NoMemory) => Err(RunFault::NoMemory),
-    }
+    let ending = run_script(alloc, script, sink, steps)?;
+    write_all(sink, last_line(ending))?;
+    Ok(ending)
 }
 
-/// Answers an input: writes its trace and the line behind it, and returns how it ended.
+/// Writes the line of a refusal.
+fn answer_refusal<K: Sink>(
+    alloc: Global,
+    refusal: Refusal,
+    sink: &mut K,
+) -> Result<Ending, RunFault>
+    ensures ending { IfOk result (λ ending. ending ≡ Ending.Refused) }
+    ensures text { WritesText (K.held sink.old) (K.held sink.new) (line_of refusal) result }
+    ensures cause { HasRunCause (K.faults sink.old) (K.faults sink.new) result }
+{
+    let line = refusal_line(alloc, refusal)?;
+    write_all(sink, &line)?;
+    Ok(Ending::Refused)
+}
+
+/// Answers an input: writes what is due to it, and returns how it ended.
 pub(crate) fn respond<K: Sink>(
     alloc: Global,
     input: &[u8],
     sink: &mut K,
     steps: u32,
 ) -> Result<Ending, RunFault>
-    ensures ending { IfOk result (λ ending. ending ≡ (answer steps input.now).ending) }
-    ensures text { WritesText (K.held sink.old) (K.held sink.new) (answer steps input.now).text result }
+    requires some { 0 < steps }
+    requires most { steps ≤ 1000000 }
+    ensures ending { IfOk result (λ ending. ending ≡ (answer_to steps input.now).ending) }
+    ensures calm { IfOk result (λ ending. ending ≢ Ending.Raised) }
+    ensures text { WritesText (K.held sink.old) (K.held sink.new) (answer_to steps input.now).text result }
     ensures cause { HasRunCause (K.faults sink.old) (K.faults sink.new) result }
 {
-    let ending = run_input(alloc, input, sink, steps)?;
-    write_all(sink, last_line(ending))?;
-    Ok(ending)
+    match mocked_script(alloc, input) {
+        Ok(script) => answer_script(alloc, &script, sink, steps),
+        Err(InputFault::Refused(refusal)) => answer_refusal(alloc, refusal, sink),
+        Err(InputFault::NoMemory) => Err(RunFault::NoMemory),
+    }
 }

@@ -26,17 +26,8 @@ pub mod EntriesRead
 pub mod LeavesRead
 pub mod ScopesSeen
 pub mod Counting
-pub mod Beginnings
 pub mod Building
 pub mod Generating
-pub mod Linking
-pub mod Texts
-pub mod Phrases
-pub mod Naming
-pub mod Documents
-pub mod ReaderSteps
-pub mod Rows
-pub mod Accepting
 pub mod Openings
 pub mod TextCopies
 pub mod ScriptsRead

@@ -17,14 +17,7 @@ pub mod EntriesRead
 pub mod Bodies
 pub mod Blocks
 pub mod Captured
-pub mod Pieces
-pub mod Arena
-pub mod Statements
-pub mod Reader
-pub mod Phrases
-pub mod Lists
 pub mod Standing
-pub mod Taking
 pub mod Texted
 pub mod Unflat
 pub mod ScriptCode

@@ -1,4 +1,4 @@
-//! The script language: its scripts, and their reading from bytes.
+//! The script language: its scripts, and their reading from a tree.
 #![tactic(auto)]
 
 mod bodies;
@@ -25,7 +25,6 @@ mod reader;
 mod scope;
 mod script;
 mod silent_forms;
-pub mod small;
 mod statements;
 mod table;
 

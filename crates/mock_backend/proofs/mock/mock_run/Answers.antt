@@ -1,9 +1,9 @@
 use Rattle.std.proofs.Common.{◌∙◌, ap, subst}
 use Rattle.std.specs.Io.KnownBytes.{Appends}
 use Rattle.trace_out.specs.Causes.{AppendsFront}
-use Rattle.first_model.specs.Answer.{answer}
-use Rattle.mock_backend.proofs.Answered.{always_comes, front_of_answer, reads_ended, writes_whole}
 use Rattle.trace_out.proofs.Consumed.{has_read_through}
+use Rattle.mock_backend.specs.Due.{answer_to}
+use Rattle.mock_backend.proofs.Answered.{front_of_answer, reads_ended, status_asked, status_calm, writes_whole}
 use Rattle.mock_backend.proofs.mock.mock_run.Goals as goal
 
 pub returns-in-Ok-respond-clause-read : goal.returns-in-Ok-respond-clause-read
@@ -14,12 +14,14 @@ returns-in-Ok-respond-clause-text g c =
     let same = c.deref.ensures.value in
     rw c.to_status.ensures
     (writes_whole _ _ _ _ _ _ _ c.in-Ok.ensures.input
-    (c.in-Ok-respond.ensures.ending ∙ ap (λ bytes. (answer c.args.steps bytes).ending) same)
-    (subst (λ bytes. Appends (g.K.Sink.held c.args.sink.now) (g.K.Sink.held c.respond.new.sink) (answer c.args.steps bytes).text) same c.in-Ok-respond.ensures.text))
+    (c.in-Ok-respond.ensures.ending ∙ ap (λ bytes. (answer_to c.args.steps bytes).ending) same)
+    (subst (λ bytes. Appends (g.K.Sink.held c.args.sink.now) (g.K.Sink.held c.respond.new.sink) (answer_to c.args.steps bytes).text) same c.in-Ok-respond.ensures.text))
 
-pub returns-in-Ok-respond-clause-over : goal.returns-in-Ok-respond-clause-over
-returns-in-Ok-respond-clause-over g c =
-    rw c.to_status.ensures (always_comes _ _ _ c.requires c.in-Ok-respond.ensures.ending)
+pub returns-in-Ok-respond-clause-asked : goal.returns-in-Ok-respond-clause-asked
+returns-in-Ok-respond-clause-asked g c = rw c.to_status.ensures (status_asked _)
+
+pub returns-in-Ok-respond-clause-calm : goal.returns-in-Ok-respond-clause-calm
+returns-in-Ok-respond-clause-calm g c = rw c.to_status.ensures (status_calm _ c.in-Ok-respond.ensures.calm)
 
 pub returns-in-Err-WriteFault-clause-read : goal.returns-in-Err-WriteFault-clause-read
 returns-in-Err-WriteFault-clause-read g c = has_read_through _ _ _ c.in-Ok.ensures.input
@@ -27,9 +29,9 @@ returns-in-Err-WriteFault-clause-read g c = has_read_through _ _ _ c.in-Ok.ensur
 pub returns-in-Err-WriteFault-clause-text : goal.returns-in-Err-WriteFault-clause-text
 returns-in-Err-WriteFault-clause-text g c =
     front_of_answer _ _ _ _ _ _ c.in-Ok.ensures.input
-    (subst (λ bytes. AppendsFront (g.K.Sink.held c.args.sink.now) (g.K.Sink.held c.respond.new.sink) (answer c.args.steps bytes).text) c.deref.ensures.value c.in-Err-WriteFault.ensures.text)
+    (subst (λ bytes. AppendsFront (g.K.Sink.held c.args.sink.now) (g.K.Sink.held c.respond.new.sink) (answer_to c.args.steps bytes).text) c.deref.ensures.value c.in-Err-WriteFault.ensures.text)
 
 pub returns-clause-text : goal.returns-clause-text
 returns-clause-text g c =
     front_of_answer _ _ _ _ _ _ c.in-Ok.ensures.input
-    (subst (λ bytes. AppendsFront (g.K.Sink.held c.args.sink.now) (g.K.Sink.held c.respond.new.sink) (answer c.args.steps bytes).text) c.deref.ensures.value c.in-Err-NoMemory-respond.ensures.text)
+    (subst (λ bytes. AppendsFront (g.K.Sink.held c.args.sink.now) (g.K.Sink.held c.respond.new.sink) (answer_to c.args.steps bytes).text) c.deref.ensures.value c.in-Err-NoMemory-respond.ensures.text)

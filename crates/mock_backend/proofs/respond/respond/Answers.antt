@@ -1,20 +1,21 @@
-use Rattle.std.proofs.Common.{subst}
-use Rattle.std.specs.Io.KnownBytes.{Appends}
-use Rattle.trace_out.specs.Causes.{AppendsFront}
-use Rattle.mock_backend.proofs.Answered.{front_of_text, front_of_trace, whole_text}
-use Rattle.mock_backend.proofs.Running.{writes_failed}
+use Rattle.mock_backend.proofs.Answered.{refusal_answered, refusal_written, refused_is_calm, script_answered, script_written}
+use Rattle.mock_backend.proofs.Inputs.{mocked_runs}
 use Rattle.mock_backend.proofs.respond.respond.Goals as goal
 
-pub returns-in_err-ending-clause-text : goal.returns-in_err-ending-clause-text
-returns-in_err-ending-clause-text g c =
-    writes_failed _ _ _ _ c.from_residual.ensures.0 (front_of_trace _ _ _ _ c.in_err-ending.ensures.text)
+pub answer_script-requires-clause-script : goal.answer_script-requires-clause-script
+answer_script-requires-clause-script g c = mocked_runs _ _ c.in-Ok.ensures.ok
 
-pub returns-in_err-write_all-clause-text : goal.returns-in_err-write_all-clause-text
-returns-in_err-write_all-clause-text g c =
-    writes_failed _ _ _ _ c.from_residual-in_err-write_all.ensures.0
-    (front_of_text _ _ _ _ _ _ c.in_ok-ending.ensures.ending c.in_ok-ending.ensures.text
-    (subst (AppendsFront _ _) c.last_line.ensures c.in_err-write_all.ensures.err))
+pub returns-in-Ok-clause-ending : goal.returns-in-Ok-clause-ending
+returns-in-Ok-clause-ending g c = script_answered _ _ _ _ c.in-Ok.ensures.ok c.answer_script.ensures.ending
 
-pub returns-clause-text : goal.returns-clause-text
-returns-clause-text g c = whole_text _ _ _ _ _ _ c.in_ok-ending.ensures.ending c.in_ok-ending.ensures.text
-    (subst (Appends _ _) c.last_line.ensures c.in_ok-write_all.ensures.ok)
+pub returns-in-Ok-clause-text : goal.returns-in-Ok-clause-text
+returns-in-Ok-clause-text g c = script_written _ _ _ _ _ _ c.in-Ok.ensures.ok c.answer_script.ensures.text
+
+pub returns-in-Err-Refused-clause-ending : goal.returns-in-Err-Refused-clause-ending
+returns-in-Err-Refused-clause-ending g c = refusal_answered _ _ _ _ (rw c.in-Err-Refused.field-0-is at c.in-Err-Refused.ensures.fault) c.answer_refusal.ensures.ending
+
+pub returns-in-Err-Refused-clause-calm : goal.returns-in-Err-Refused-clause-calm
+returns-in-Err-Refused-clause-calm g c = refused_is_calm _ c.answer_refusal.ensures.ending
+
+pub returns-in-Err-Refused-clause-text : goal.returns-in-Err-Refused-clause-text
+returns-in-Err-Refused-clause-text g c = refusal_written _ _ _ _ _ _ (rw c.in-Err-Refused.field-0-is at c.in-Err-Refused.ensures.fault) c.answer_refusal.ensures.text

@@ -1,63 +1,104 @@
-use Rattle.std.proofs.Common.{◌∙◌, ◌+◌, ◌-◌, [], ap, sym, subst, arith, rules}
-use Rattle.std.proofs.KnownBytes.{Appends-nil}
-use Rattle.first_model.specs.Machine.{Moved, State, run, opening}
-use Rattle.script_lang.specs.Pieces.{main_of}
-use Rattle.first_model.specs.Answer.{ending_in}
-use Rattle.mock_backend.specs.Kept.{state_of}
-use Rattle.mock_backend.specs.Moves.{Steps}
-use Rattle.mock_backend.proofs.Running.{IsPart, part_front, part_front_moves, part_moves, part_same, whole_idle, whole_none, writes_failed}
+use Rattle.std.proofs.Common.{◌∙◌, inl, inr, ap, subst, sym, arith}
+use Rattle.std.proofs.lemmas.Result.{err_from_is_err_and}
+use Rattle.trace_out.proofs.Appended.{front_none}
+use Rattle.machine_model.specs.Trace.{ending_in}
+use Rattle.domain_core.specs.declared.turn.Turn.{Turn}
+use Rattle.domain_core.specs.declared.turn.Turn.TheVariants as turn
+use Rattle.domain_core.specs.Turns.{Turns}
+use Rattle.mock_backend.specs.Objects.{Calls, Strikes, Asks, Receives, Learns}
+use Rattle.mock_backend.proofs.Running.{IsMoved, IsWhole, cause_before, grown_has, objects_fit, part_front, part_front_moves, part_moves, part_opens, turn_can_trace, turn_moves, whole_budget, whole_halted, whole_idle, whole_spent, writes_failed}
 use Rattle.mock_backend.proofs.run.run_script.Goals as goal
-use Rattle.mock_backend.proofs.run.run_script.Goals.{in-Quiet, in-Traced+in_ok-write_line-in-Traced}
+use Rattle.mock_backend.proofs.run.run_script.Given.{Over}
+use Rattle.mock_backend.proofs.run.run_script.Goals.{In-Moved, In-Idle}
 
-pub returns-in_err-step-clause-text : goal.returns-in_err-step-clause-text
-returns-in_err-step-clause-text g c =
-    writes_failed _ _ _ _ c.from_residual-in_err-step.ensures.0 (part_front _ _ _ _ _ c.running.invariant.part)
+pub returns-in_err-domain-clause-text : goal.returns-in_err-domain-clause-text
+returns-in_err-domain-clause-text g c = writes_failed _ _ _ _ c.from_residual-in_err-domain.ensures.0 (front_none _ _)
+
+pub running-init : goal.running-init
+running-init g c = record {
+  part = part_opens _ _ _ _ _ c.in_ok-texts.ensures.table c.in_ok-domain.ensures;
+  fits = objects_fit _ _ _ c.new-objects.result c.in_ok-domain.ensures c.new-objects.ensures.declared;
+  own = c.in_ok-texts.ensures.own;
+  later = omega arith;
+}
+
+pub returns-in_err-line-clause-text : goal.returns-in_err-line-clause-text
+returns-in_err-line-clause-text g c =
+    writes_failed _ _ _ _ c.from_residual-in_err-line.ensures.0 (part_front _ _ _ _ _ _ _ c.running.invariant.part)
+
+-- what the turn did, where it made a line
+made_line : (g : Over) (c : In-Moved g) → Turns Calls Strikes Receives Asks Learns c.args.script.now (turn.Moved c.in-Moved.line) c.running.texts c.turn.new.texts c.running.domain c.turn.new.self c.running.objects c.turn.new.objects
+made_line g c =
+    subst (λ (it : Turn). Turns Calls Strikes Receives Asks Learns c.args.script.now it c.running.texts c.turn.new.texts c.running.domain c.turn.new.self c.running.objects c.turn.new.objects) c.in-Moved.is
+    c.in_ok-line.ensures.turns
+
+moved_on : (g : Over) (c : In-Moved g) → IsMoved c.args.script.now c.running.invariant.part.state c.in-Moved.line c.turn.new.texts c.turn.new.self
+moved_on g c =
+    turn_moves c.args.script.now c.in-Moved.line c.running.texts c.turn.new.texts c.running.domain c.turn.new.self c.running.objects c.turn.new.objects (made_line g c).5
+    c.running.invariant.part.state c.running.invariant.part.stands
+
+pub write_line-requires-clause-line : goal.write_line-requires-clause-line
+write_line-requires-clause-line g c =
+    let it = (goal.at.write_line-requires-clause-line g c).In-Moved in
+    turn_can_trace c.args.script.now c.in-Moved.line c.running.texts c.turn.new.texts c.running.domain c.turn.new.self c.running.objects c.turn.new.objects (made_line g it).5
+    c.requires.script.texts (grown_has _ _ _ (made_line g it).4 c.running.invariant.own) _ c.running.invariant.part.state.local c.running.invariant.part.stands
+
+pub returns-in_err-write_line-in-Moved-clause-text : goal.returns-in_err-write_line-in-Moved-clause-text
+returns-in_err-write_line-in-Moved-clause-text g c =
+    let it = (goal.at.returns-in_err-write_line-in-Moved-clause-text g c).In-Moved in
+    writes_failed _ _ _ _ c.from_residual-in_err-write_line-in-Moved.ensures.0
+    (part_front_moves _ _ _ _ _ _ _ _ _ _ c.running.invariant.part (omega arith) _ (moved_on g it) _ c.names.ensures.names c.in_err-write_line-in-Moved.ensures.text)
+
+pub returns-in_err-write_line-in-Moved-clause-cause : goal.returns-in_err-write_line-in-Moved-clause-cause
+returns-in_err-write_line-in-Moved-clause-cause g c =
+    let p = err_from_is_err_and c.from_residual-in_err-write_line-in-Moved.result c.from_residual-in_err-write_line-in-Moved.ensures.1 in
+    cause_before _ _ _ _ p.0 _ p.1 p.2 c.running.invariant.later c.in_err-write_line-in-Moved.ensures.cause
+
+-- the run is over where a turn made no line
+still : (g : Over) (c : In-Idle g) → IsWhole c.args.script.now c.args.steps (g.K.Sink.held c.args.sink.now) (g.K.Sink.held c.running.sink) c.turn.new.texts c.turn.new.self
+still g c =
+    let part = c.running.invariant.part in
+    let turned = λ (it : Turn). Turns Calls Strikes Receives Asks Learns c.args.script.now it c.running.texts c.turn.new.texts c.running.domain c.turn.new.self c.running.objects c.turn.new.objects in
+    elim c.in-Idle.is [
+      | inl is ↦ whole_idle _ _ _ _ _ _ _ _ _ _ _ part (subst turned is c.in_ok-line.ensures.turns)
+      | inr (inl is) ↦ whole_budget _ _ _ _ _ _ _ _ _ _ _ part (omega arith) (subst turned is c.in_ok-line.ensures.turns)
+      | inr (inr is) ↦ whole_halted _ _ _ _ _ _ _ _ _ _ _ part (subst turned is c.in_ok-line.ensures.turns)
+    ]
 
 pub returns-in-Idle-clause-ending : goal.returns-in-Idle-clause-ending
 returns-in-Idle-clause-ending g c =
-    let idle = subst (Steps c.args.script.now c.running.machine c.step.new.self) c.in-Idle.is c.in_ok-step.ensures in
-    let whole = whole_idle _ _ _ _ _ c.running.invariant.part idle.0 in
-    c.ending.ensures c.args.script.now ∙ ap ending_in (ap (state_of c.args.script.now) idle.1 ∙ sym whole.next)
+    let whole = still g (goal.at.returns-in-Idle-clause-ending g c).In-Idle in
+    c.ending_of.ensures.ending c.args.script.now c.turn.new.texts whole.state whole.stands ∙ ap (ending_in c.args.script.now) (sym whole.last)
+
+pub returns-in-Idle-clause-calm : goal.returns-in-Idle-clause-calm
+returns-in-Idle-clause-calm g c =
+    let whole = still g (goal.at.returns-in-Idle-clause-calm g c).In-Idle in
+    c.ending_of.ensures.calm c.args.script.now c.turn.new.texts whole.state whole.stands
 
 pub returns-in-Idle-clause-text : goal.returns-in-Idle-clause-text
-returns-in-Idle-clause-text g c =
-    let idle = subst (Steps c.args.script.now c.running.machine c.step.new.self) c.in-Idle.is c.in_ok-step.ensures in
-    (whole_idle _ _ _ _ _ c.running.invariant.part idle.0).text
-
-pub returns-in_err-write_line-in-Traced-clause-text : goal.returns-in_err-write_line-in-Traced-clause-text
-returns-in_err-write_line-in-Traced-clause-text g c =
-    let moves = subst (Steps c.args.script.now c.running.machine c.step.new.self) c.in-Traced.is c.in_ok-step.ensures in
-    writes_failed _ _ _ _ c.from_residual-in_err-write_line-in-Traced.ensures.0
-    (part_front_moves _ _ _ _ _ _ _ (omega arith) c.running.invariant.part moves c.in_err-write_line-in-Traced.ensures.text)
+returns-in-Idle-clause-text g c = (still g (goal.at.returns-in-Idle-clause-text g c).In-Idle).appended
 
 pub running-preserved : goal.running-preserved
 running-preserved g c =
-    let held = g.K.Sink.held in
-    let whole : Moved = run c.args.steps [] (opening (main_of c.args.script.now)) in
-    let next : State = state_of c.args.script.now c.step.new.self in
-    elim c.match-branch-3.branch [
-      | in-Quiet w ↦ (
-          let moves = subst (Steps c.args.script.now c.running.machine c.step.new.self) w.in-Quiet.is c.in_ok-step.ensures in
-          let part : IsPart (held c.args.sink.now) (held c.running.sink) (c.args.steps - (c.running.made + 1)) next whole =
-          part_moves _ _ _ _ _ _ _ _ (omega arith) c.running.invariant.part moves (Appends-nil (held c.running.sink)) in
-          record {
-            part = part_same held _ _ _ _ _ _ w.sink-is part;
-            later = search rules;
-          })
-      | in-Traced+in_ok-write_line-in-Traced w ↦ (
-          let moves = subst (Steps c.args.script.now c.running.machine c.step.new.self) w.in-Traced.is c.in_ok-step.ensures in
-          let part : IsPart (held c.args.sink.now) (held w.write_line.new.sink) (c.args.steps - (c.running.made + 1)) next whole =
-          part_moves _ _ _ _ _ _ _ _ (omega arith) c.running.invariant.part moves w.in_ok-write_line-in-Traced.ensures.text in
-          record {
-            part = part_same held _ _ _ _ _ _ w.sink-is part;
-            later = search rules;
-          })
-    ]
+    let it = (goal.at.running-preserved g c).In-Moved in
+    record {
+      part =
+          part_moves _ _ _ _ _ _ _ _ _ _ c.running.invariant.part (omega arith) _ (moved_on g it) _ c.names.ensures.names c.in_ok-write_line-in-Moved.ensures.text
+          (made_line g it).1 (made_line g it).2;
+      fits = c.in_ok-line.ensures.objects;
+      own = grown_has _ _ _ (made_line g it).4 c.running.invariant.own;
+      later = omega (arith, c.running.invariant.later, c.in_ok-write_line-in-Moved.ensures.cause.later);
+    }
 
 pub returns-clause-ending : goal.returns-clause-ending
 returns-clause-ending g c =
-    let whole = whole_none _ _ _ _ _ c.running.invariant.part (omega arith) in
-    c.ending-2.ensures c.args.script.now ∙ ap ending_in (sym whole.next)
+    let whole = whole_spent _ _ _ _ _ _ _ c.running.invariant.part (omega arith) in
+    c.ending_of-2.ensures.ending c.args.script.now c.running.texts whole.state whole.stands ∙ ap (ending_in c.args.script.now) (sym whole.last)
+
+pub returns-clause-calm : goal.returns-clause-calm
+returns-clause-calm g c =
+    let whole = whole_spent _ _ _ _ _ _ _ c.running.invariant.part (omega arith) in
+    c.ending_of-2.ensures.calm c.args.script.now c.running.texts whole.state whole.stands
 
 pub returns-clause-text : goal.returns-clause-text
-returns-clause-text g c = (whole_none _ _ _ _ _ c.running.invariant.part (omega arith)).text
+returns-clause-text g c = (whole_spent _ _ _ _ _ _ _ c.running.invariant.part (omega arith)).appended

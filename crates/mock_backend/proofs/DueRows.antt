@@ -1,0 +1,74 @@
+-- What is due to a few inputs, computed by the definitions.
+use Rattle.std.proofs.Common.{◌≡◌, ℕ, refl}
+use Rattle.std.specs.Prelude.{codes}
+use Prim.Native.String.{String}
+use Rattle.std.specs.Fmt.{digits}
+use Rattle.script_model.specs.Captures.{captured_behind}
+use Rattle.script_model.specs.Declarations.{workers, declaration, declarations_behind}
+use Rattle.script_model.specs.Entries.{entries}
+use Rattle.script_model.specs.Expressions.{item, traced}
+use Rattle.script_model.specs.FlowSteps.{steps}
+use Rattle.script_model.specs.Forms.{form_of}
+use Rattle.script_model.specs.Inputs.{input_script, mocked_script}
+use Rattle.script_model.specs.Opening.{opening_texts}
+use Rattle.script_model.specs.Reading.{past_gap, text_items, run_tree, trees_by, tree_at, reading}
+use Rattle.script_model.specs.Refusals.{refusal_line, input_tree}
+use Rattle.script_model.specs.Scopes.{bring, used, directory_of}
+use Rattle.script_model.specs.Scripts.{domains, script_of}
+use Rattle.script_model.specs.Statements as reads
+use Rattle.row_model.specs.Contexts.{way_within}
+use Rattle.step_model.specs.Evaluation.{value_of, values_of}
+use Rattle.step_model.specs.Settling as settling
+use Rattle.step_model.specs.Silent as silent
+use Rattle.trace_out.specs.Outcome.{Due}
+use Rattle.trace_out.specs.declared.status.Status.TheVariants as status
+use Rattle.machine_model.specs.Answers.{ran, mocked}
+use Rattle.machine_model.specs.Mock.{move, moves}
+use Rattle.machine_model.specs.Moves.{own_call}
+use Rattle.machine_model.specs.Preparing.{prepared}
+use Rattle.machine_model.specs.Trace.{run}
+use Rattle.mock_backend.specs.Due.{answer_to, due}
+
+-- all that it is computed by is opened: what reads, and then what runs
+unfoldable mocks_in : (steps : ℕ) → (script : String) → Due
+unfolding past_gap text_items run_tree trees_by tree_at reading input_tree bring used directory_of form_of item traced captured_behind reads.statements steps entries workers declaration declarations_behind domains script_of input_script mocked_script refusal_line digits opening_texts way_within value_of values_of silent.statements settling.answered own_call prepared move moves run ran mocked
+mocks_in n script = due (answer_to n (codes script))
+
+abbrev ok : (text : String) → Due
+ok text = record { text = codes text; status = status.Ok }
+
+abbrev refused : (text : String) → Due
+refused text = record { text = codes text; status = status.Refused }
+
+an_empty_main : mocks_in 1000000 "(eio 1 (main))" ≡ ok ""
+unfolding mocks_in
+an_empty_main = refl
+
+a_forked_fiber_is_first : mocks_in 1000000 "(eio 1 (main (switch s (fork s (trace \"b\") (yield) (trace \"d\")) (trace \"a\" \"c\"))))" ≡ ok "+b\n+ac\n+d\n"
+unfolding mocks_in
+a_forked_fiber_is_first = refl
+
+as_many_moves_as_may_be : mocks_in 2 "(eio 1 (main (trace \"a\")))" ≡ ok "+a\n"
+unfolding mocks_in
+as_many_moves_as_may_be = refl
+
+one_move_more : mocks_in 1 "(eio 1 (main (trace \"a\")))" ≡ record { text = codes "+a\n!Out_of_steps\n"; status = status.OutOfSteps }
+unfolding mocks_in
+one_move_more = refl
+
+-- the first of several refusals
+no_tree : mocks_in 10 "(eio 1 (main (let x 1)) (domain)" ≡ refused "!Refused Unclosed at 0\n"
+unfolding mocks_in
+no_tree = refl
+
+no_script : mocks_in 10 "(eio 1 (main (let x 1) (foo)) (domain))" ≡ refused "!Refused Shape at 23\n"
+unfolding mocks_in
+no_script = refl
+
+a_further_body : mocks_in 10 "(eio 1 (main (let x 1)) (domain))" ≡ refused "!Refused DomainOnly at 24\n"
+unfolding mocks_in
+a_further_body = refl
+
+an_unbuilt_form : mocks_in 10 "(eio 1 (main (trace \"a\") (let x 1)))" ≡ refused "!Refused Unbuilt at 25\n"
+unfolding mocks_in
+an_unbuilt_form = refl

@@ -1,5 +1,0 @@
-use Rattle.mock_domain.proofs.Undeclared.{no_mock}
-use Rattle.mock_domain.proofs.local.LocalExtras.extra.Goals as goal
-
-pub unreachable-requires : goal.unreachable-requires
-unreachable-requires c = no_mock c.args.self.now _ c.args._call c.requires.fits

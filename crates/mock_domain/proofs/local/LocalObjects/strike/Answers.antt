@@ -1,5 +1,0 @@
-use Rattle.mock_domain.proofs.Undeclared.{none_open}
-use Rattle.mock_domain.proofs.local.LocalObjects.strike.Goals as goal
-
-pub unreachable-requires : goal.unreachable-requires
-unreachable-requires c = none_open c.args.self.now c.args._who c.requires.«open»

@@ -1,4 +1,0 @@
-pub mod Due
-pub mod Faults
-pub mod Objects
-pub mod Scripts
