@@ -1,0 +1,23 @@
+//! Laws of the blocks of a script: that the block of a number, which the definitions look up, is the one that begins at the node of that number, to which
+//! code goes. Each is the contract of an empty public function.
+//!
+//! A law is stated in `specs/`, and what proves it stands in the files of `proofs/`.
+#![tactic(auto)]
+
+ghost use Rattle.block_laws.specs.Laws.{BlocksByNumber, NumbersRise, BlocksByNode};
+
+/// Looked up by its number, each block of a script that is read is found.
+pub fn blocks_by_number()
+    ensures { BlocksByNumber }
+{}
+
+/// The numbers of a script's blocks rise in reading order, so that no two have one number.
+pub fn numbers_rise()
+    ensures { NumbersRise }
+{}
+
+/// Where a block begins, the block of the node's number is the one that stands from the node on. One begins at the number of each body, and at each number
+/// by which a node names a block.
+pub fn blocks_by_node()
+    ensures { BlocksByNode }
+{}

@@ -1,0 +1,7 @@
+pub mod Changing
+pub mod Calls
+pub mod SwitchCalls
+pub mod GroupCalls
+pub mod Keeping
+pub mod Opening
+pub mod Naming

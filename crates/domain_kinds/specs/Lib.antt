@@ -1,0 +1,2 @@
+pub mod KindedStates
+pub mod Laws

@@ -1,0 +1,5 @@
+pub mod Steps
+pub mod Statements
+pub mod FeatureScripts
+pub mod NextLists
+pub mod Rows

@@ -1,0 +1,5 @@
+pub mod FeatureForms
+pub mod Lists
+pub mod ExceptionForms
+pub mod SwitchForms
+pub mod Laws

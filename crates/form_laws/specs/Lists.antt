@@ -1,0 +1,24 @@
+-- The lists of features that come next, each with one more than the one before.
+use Rattle.std.specs.Prelude.{◌≡◌, false, [], ◌∷◌}
+use Rattle.script_model.specs.declared.Feature.TheVariants.{FirstForms, Reading, Steps, Exceptions, Switches, Groups, StreamsAndPromises, Resources, Flows, Paths, Executors}
+use Rattle.script_model.specs.Features.{Built, is_built}
+
+-- exceptions and cancellation
+abbrev pub with_exceptions : Built
+with_exceptions = FirstForms ∷ Reading ∷ Steps ∷ Exceptions ∷ []
+
+-- whole switches
+abbrev pub with_switches : Built
+with_switches = FirstForms ∷ Reading ∷ Steps ∷ Exceptions ∷ Switches ∷ []
+
+-- `both`, `first`, `all` and `any`
+abbrev pub with_groups : Built
+with_groups = FirstForms ∷ Reading ∷ Steps ∷ Exceptions ∷ Switches ∷ Groups ∷ []
+
+-- no feature of the list brings a declaration
+pub record BringsNoDeclaration (built : Built) : Type 0 where
+  pub streams : is_built built StreamsAndPromises ≡ false
+  pub resources : is_built built Resources ≡ false
+  pub executors : is_built built Executors ≡ false
+  pub flows : is_built built Flows ≡ false
+  pub paths : is_built built Paths ≡ false

@@ -1,0 +1,93 @@
+-- A worked run, so that the premises of the laws can be met: a switch with a fiber, a daemon and three handlers, of which one registers the last.
+use Rattle.std.proofs.Common.{◌≡◌, ℕ, true, false, List, [], ◌∷◌, Option, Some, None, refl}
+use Rattle.eio_value.specs.declared.message.Message.{Message}
+use Rattle.eio_value.specs.declared.message.Message.TheVariants as message
+use Rattle.eio_value.specs.declared.raised.Outcome.TheVariants as outcome
+use Rattle.eio_value.specs.declared.value.Value.TheVariants as value
+use Rattle.row_model.specs.Contexts.{way_within}
+use Rattle.row_model.specs.Switches.{Handler}
+use Rattle.script_model.specs.Scripts.{Script}
+use Rattle.script_model.specs.Syntax.{Statement, Yield, AwaitCancel, Switch, Fork, Plain, Daemon, OnRelease, Block, Begins, Statements, Done, Then}
+use Rattle.step_model.specs.Evaluation.{value_of, values_of}
+use Rattle.step_model.specs.Numbered.{block_numbered, blocks_of_statement}
+use Rattle.step_model.specs.Settling.{answered}
+use Rattle.step_model.specs.Silent.{statement}
+use Rattle.trace_out.specs.declared.line.Did.{Did}
+use Rattle.trace_out.specs.declared.line.Did.TheVariants as did
+use Rattle.trace_out.specs.declared.line.Said2.{Said2}
+use Rattle.trace_out.specs.declared.line.Said2.TheVariants as said
+use Rattle.machine_model.specs.Domain.{DomainState, fiber_at, has_ended}
+use Rattle.machine_model.specs.Labels.{Took}
+use Rattle.machine_model.specs.Mock.{Moved, opening, move, moves}
+use Rattle.machine_model.specs.Moves.{own_call, after}
+use Rattle.machine_model.specs.Preparing.{prepared}
+use Rattle.machine_model.specs.Steps.{waiting_from}
+use Rattle.machine_model.specs.Trace.{run}
+use Rattle.scope_laws.specs.Released.{Seen, seen_of, accepted, batches}
+
+abbrev statements : List Statement → Statements
+statements [] = Done
+statements (it ∷ others) = Then it (statements others)
+
+abbrev block : (number : ℕ) → List Statement → Block
+block number items = Begins number (statements items)
+
+-- the handlers are the blocks 4, 5 and 6; block 5 is registered while block 4 runs
+abbrev worked : Script
+worked = record {
+  names = [];
+  declarations = [];
+  bodies = block 0 (Switch (block 1 (
+      Fork Plain 0 (block 2 (Yield ∷ [])) ∷ Fork Daemon 0 (block 3 (AwaitCancel ∷ []))
+      ∷ OnRelease 0 (block 4 (OnRelease 0 (block 5 []) ∷ [])) ∷ OnRelease 0 (block 6 []) ∷ [])) ∷ []) ∷ [];
+  texts = [];
+  failures = [];
+  formed = [];
+  first_domain = None;
+}
+
+unfoldable before_its_end : List Seen
+unfolding run moves move prepared own_call value_of values_of answered statement waiting_from way_within block_numbered blocks_of_statement
+before_its_end = seen_of (opening worked) (run worked 19).moves
+
+abbrev told : Option Moved → Option (Did × Said2)
+told None = None
+told (Some moved) = Some (moved.line.did, moved.line.reply)
+
+abbrev handler : (number : ℕ) → Handler
+handler number = record { block = number; values = value.Switch 0 ∷ [] }
+
+-- after 19 moves `close` answers
+it_closes : told (move worked (run worked 19).last) ≡ Some (did.Close 0, said.Done value.Unit)
+unfolding run moves move prepared own_call value_of values_of answered statement waiting_from way_within block_numbered blocks_of_statement
+it_closes = refl
+
+three_are_accepted : accepted 0 before_its_end ≡ handler 4 ∷ handler 6 ∷ handler 5 ∷ []
+unfolding before_its_end
+three_are_accepted = refl
+
+in_two_batches : batches 0 before_its_end ≡ (handler 4 ∷ handler 6 ∷ []) ∷ (handler 5 ∷ []) ∷ []
+unfolding before_its_end
+in_two_batches = refl
+
+-- ## A message for a fiber that has ended
+
+-- such a message comes to no domain of a legal history; where it comes, the fiber, which was forked onto the switch, moves again after `close` has answered
+abbrev late : Message
+late = message.Resume (record { domain = 0; fiber = 1; cell = 0; armed = 0 }) (outcome.Ok value.Unit) 0
+
+unfoldable at_the_end : DomainState
+unfolding run moves move prepared own_call value_of values_of answered statement waiting_from way_within block_numbered blocks_of_statement
+at_the_end = (run worked 20).last.local
+
+it_may_come : (at_the_end.halted ≡ false) × (at_the_end.duties ≡ [])
+unfolding at_the_end
+it_may_come = (refl, refl)
+
+it_had_ended : has_ended (fiber_at at_the_end.fibers 1) ≡ true
+unfolding at_the_end
+it_had_ended = refl
+
+it_moves_again : has_ended (fiber_at (after worked at_the_end 21 (Took late)).fibers 1) ≡ false
+unfolding at_the_end after prepared value_of values_of answered statement
+it_moves_again = refl

@@ -1,0 +1,25 @@
+//! Laws of finished scopes in runs, each as the contract of an empty public function.
+//!
+//! A law is stated in `specs/`, and what proves it stands in the files of `proofs/`. Each is said of three kinds of runs: of one
+//! domain, where messages resume only fibers that wait for one, whatever else comes from outside; of a script on one mocked domain, for
+//! any number of moves; and of a script on several domains, in every legal history.
+#![tactic(auto)]
+
+ghost use Rattle.scope_laws.specs.Finished.{LeavesNothing, LeavesNothingInHistories, LeavesNothingInRuns};
+ghost use Rattle.scope_laws.specs.Released.{ReleasesOnce, ReleasesOnceInHistories, ReleasesOnceInRuns};
+
+/// Once `close` of a switch has answered a value or an exception, each fiber and each daemon that was forked onto it has
+/// ended, in that state and in every later one.
+pub fn leaves_nothing()
+    ensures in_domains { LeavesNothing }
+    ensures in_runs { LeavesNothingInRuns }
+    ensures in_histories { LeavesNothingInHistories }
+{}
+
+/// When `close` of a switch answers a value or an exception, each release handler that the switch has accepted with `()`
+/// has run once, batch by batch, and within each batch the last one first.
+pub fn releases_once()
+    ensures in_domains { ReleasesOnce }
+    ensures in_runs { ReleasesOnceInRuns }
+    ensures in_histories { ReleasesOnceInHistories }
+{}

@@ -1,0 +1,4 @@
+pub mod Texts
+pub mod Domains
+pub mod Laws
+pub mod DomainLaws
