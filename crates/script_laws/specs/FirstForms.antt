@@ -1,15 +1,15 @@
 -- The first forms: `switch`, `fork`, `trace` of texts, `yield`.
-use Rattle.std.specs.Prelude.{◌≡◌, All, Ok, None}
+use Rattle.std.specs.Prelude.{◌≡◌, [], ◌∷◌, All, Ok, None}
+use Rattle.script_model.specs.declared.Feature.TheVariants as feature
 use Rattle.script_model.specs.Features.{Built}
 use Rattle.script_model.specs.RefusedForms.{unbuilt}
 use Rattle.script_model.specs.Scripts.{Script, script_of}
-use Rattle.script_model.specs.Today.{built_today}
 use Rattle.script_model.specs.Syntax.{Expression, TextValue, Expressions, NoExpressions, AndExpression, Statement, Trace, Yield, Switch, Fork, Plain, Block, Begins, Statements, Done, Then}
 use Rattle.script_model.specs.Trees.{Tree}
 
--- what is built where the first forms are the only ones: as long as they are, what is built today
+-- what is built where the first forms are the only ones
 abbrev pub first_built : Built
-first_built = built_today
+first_built = feature.FirstForms ∷ feature.Reading ∷ feature.Steps ∷ []
 
 abbrev pub IsText : Expression → Type 0
 IsText (TextValue text) = Unit {0}

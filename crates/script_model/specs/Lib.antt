@@ -25,4 +25,3 @@ pub mod Scripts
 pub mod RefusedForms
 pub mod Opening
 pub mod Inputs
-pub mod Today

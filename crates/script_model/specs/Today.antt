@@ -1,7 +1,0 @@
--- What is built today. The program's theorem speaks of these; rows and comparisons take everything as built.
-use Rattle.std.specs.Prelude.{[], ◌∷◌}
-use Rattle.script_model.specs.Features.{Built}
-use Rattle.script_model.specs.declared.Feature.TheVariants.{FirstForms, Reading, Steps}
-
-abbrev pub built_today : Built
-built_today = FirstForms ∷ Reading ∷ Steps ∷ []
