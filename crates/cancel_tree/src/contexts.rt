@@ -133,7 +133,8 @@ impl Contexts {
     /// Appends the waiting fibers that a cancellation of the context reaches, in order of number.
     pub fn members(&self, c: u32, out: &mut Vec<u32>)
         requires { vec_len out.old + 1024 ≤ vec_capacity out.old }
-        ensures { out.new.items ≡ out.old.items ++ calls.members self.now c }
+        ensures reached { out.new.items ≡ out.old.items ++ calls.members self.now c }
+        ensures capacity { vec_capacity out.old ≤ vec_capacity out.new }
     {
         for waiting in self.waiters.entered() {
             if self.tree.goes_up_to(waiting.context, c) {
@@ -150,6 +151,7 @@ impl Contexts {
         requires room { vec_len out.old + 1024 ≤ vec_capacity out.old }
         ensures after { self.new ≡ calls.called (calls.Cancel c why) self.old }
         ensures struck { out.new.items ≡ out.old.items ++ contexts.to_be_struck self.old.made self.old.waiting c }
+        ensures capacity { vec_capacity out.old ≤ vec_capacity out.new }
     {
         if self.cancel(c, why) {
             self.members(c, out);

@@ -204,5 +204,7 @@ strikes_in_step = record {
   won = λ kept l duty g are can live. (let it = wakes_alike kept l are g _ can in (it.0, off_there kept l are g live, it.1));
   own = λ kept l duty g wait are stands which. own_alike kept l are duty g wait stands which;
   few = few_struck;
+  at_once = λ contexts ws c why.
+      ap (λ b. elim b as (λ _. List ℕ) [ true ↦ reached (cancel c why contexts) ws c | false ↦ [] ]) (cancels_once contexts c why);
   again = λ maker other c why because l. again_alike other c because (cancels maker c why l) (cancels_once l.contexts c why);
 }

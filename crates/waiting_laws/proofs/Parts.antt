@@ -4,7 +4,7 @@ use Rattle.eio_value.specs.declared.raised.Raised.{Raised}
 use Rattle.eio_value.specs.declared.value.Value.{Value}
 use Rattle.eio_value.specs.Exceptions.{reason}
 use Rattle.row_model.specs.Contexts.{Context, context_at, is_live, new_context, end, to_be_struck}
-use Rattle.row_model.specs.ContextCalls.{Contexts, Cancel, Protect, Root, Sub, called}
+use Rattle.row_model.specs.ContextCalls.{Contexts, Cancel, Protect, Root, Sub, called, no_contexts}
 use Rattle.row_model.specs.Errors.{joined}
 use Rattle.row_model.specs.Switches.{Switch, switch_at}
 use Rattle.cancel_tree.specs.Ended.{left_by_end}
@@ -16,12 +16,13 @@ use Rattle.step_model.specs.Replies.{begun}
 use Rattle.machine_model.specs.ContextMoves.{leaves}
 use Rattle.machine_model.specs.Domain.{CallsAgain, DomainState, Ended, ForOthers, ForCancel, Asleep, OnObject, Resting, OfGroup, Parked, Ready, Standing, Wait, fiber_at, made, to_back}
 use Rattle.machine_model.specs.GroupMoves.{branched}
-use Rattle.machine_model.specs.Steps.{can_be_cancelled, cancels, strike_by}
+use Rattle.machine_model.specs.Mock.{opening_domain}
+use Rattle.machine_model.specs.Steps.{can_be_cancelled, cancels, strike_by, waiting_from}
 use Rattle.machine_model.specs.SwitchMoves.{fails, with_switch_at, woken, woken_if}
 use Rattle.waiting_laws.specs.InStep.{AreContexts}
 use Rattle.waiting_laws.specs.Parts.{CallsInStep, FibersInStep, NobodyWaitsIn}
 use Rattle.waiting_laws.specs.WhoWaits.{can_be_struck, contexts_of}
-use Rattle.waiting_laws.proofs.Alike.{answers_alike, childless_here, domains_in_step, number_alike, one_more, one_unseen}
+use Rattle.waiting_laws.proofs.Alike.{answers_alike, childless_here, domains_in_step, number_alike, one_more, one_unseen, contexts_in_step}
 
 module _ (kept : Contexts) (l : DomainState) (are : AreContexts kept (contexts_of l)) where
   -- one who stood so didn't wait so
@@ -120,8 +121,13 @@ module _ (kept : Contexts) (l : DomainState) (are : AreContexts kept (contexts_o
       × AreContexts (called (Cancel (switch_at l.switches n).context (reason what)) kept) (contexts_of k)) (sym (failed_open l maker n what still))
       (domains_in_step.cancelled kept (with_switch_at n (failing l maker n what) l) maker (switch_at l.switches n).context (reason what) are)
 
+starts_alike : (number : ℕ) (texts : List (List ℕ)) (body : Block) → AreContexts (called Root no_contexts) (contexts_of (opening_domain number texts body))
+unfolding waiting_from
+starts_alike number texts body = one_more no_contexts no_contexts contexts_in_step.opens Root tt
+
 pub calls_in_step : CallsInStep
 calls_in_step = record {
+  starts = starts_alike;
   roots = λ kept l are. (number_alike kept (contexts_of l) are (new_context None false), one_more kept (contexts_of l) are Root tt);
   subs = λ kept l parent are lives.
       (number_alike kept (contexts_of l) are (new_context (Some parent) false), one_more kept (contexts_of l) are (Sub parent) (live_kept kept l are parent lives));

@@ -1,8 +1,8 @@
 -- The contexts of a domain as code keeps them, and as the definitions do. Code forgets what has ended, and keeps the list of those that wait; the definitions keep all
 -- contexts, and read who waits off the fibers. The same calls have led to both.
-use Rattle.std.specs.Prelude.{◌≡◌, ◌⊎◌, ℕ, ◌+◌, ◌≤◌, true, false, List, ◌++◌, length, map}
+use Rattle.std.specs.Prelude.{◌≡◌, ◌⊎◌, ℕ, ◌+◌, ◌≤◌, true, false, List, [], ◌++◌, length, map}
 use Rattle.eio_value.specs.declared.plain.Plain.{Plain}
-use Rattle.row_model.specs.Contexts.{Context, is_live, make, end, off, to_be_struck}
+use Rattle.row_model.specs.Contexts.{Context, Waiting, cancel, is_live, make, end, off, to_be_struck}
 use Rattle.row_model.specs.ContextCalls.{Contexts, ContextCall, Cancel, Wait, Unwait, no_contexts, called, after}
 use Rattle.cancel_tree.specs.Ended.{left_by_end}
 use Rattle.cancel_tree.specs.Endings.{HasNoLiveChild}
@@ -77,5 +77,7 @@ pub record StrikesInStep : Type 0 where
       → (wait ≡ ForCancel) ⊎ (wait ≡ Asleep) → AreContexts (called (Unwait g) kept) (contexts_of (own_strike duty g (Parked wait) l).state)
   -- no more are struck than live
   pub few : (contexts : List Context) (fibers : List Fiber) (c : ℕ) → length (to_be_struck contexts (waiting_from 0 fibers) c) ≤ live_fibers fibers
+  -- once a context was cancelled, a cancellation of it strikes nobody
+  pub at_once : (contexts : List Context) (ws : List Waiting) (c : ℕ) (why : Plain) → to_be_struck (cancel c why contexts) ws c ≡ []
   -- a context that was cancelled is cancelled again without any change, so the strikes of two cancellations of one context are those of the first
   pub again : (maker other c : ℕ) (why because : Plain) (l : DomainState) → cancels other c because (cancels maker c why l) ≡ cancels maker c why l

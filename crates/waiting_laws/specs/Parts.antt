@@ -6,7 +6,7 @@ use Rattle.eio_value.specs.declared.raised.Raised.{Raised}
 use Rattle.eio_value.specs.declared.value.Value.{Value}
 use Rattle.eio_value.specs.Exceptions.{reason}
 use Rattle.row_model.specs.Contexts.{context_at, is_live, protect, root, sub, to_be_struck}
-use Rattle.row_model.specs.ContextCalls.{Contexts, Cancel, Protect, Root, Sub, called}
+use Rattle.row_model.specs.ContextCalls.{Contexts, Cancel, Protect, Root, Sub, called, no_contexts}
 use Rattle.row_model.specs.Switches.{switch_at}
 use Rattle.cancel_tree.specs.Ended.{left_by_end}
 use Rattle.cancel_tree.specs.Endings.{HasNoLiveChild}
@@ -17,6 +17,7 @@ use Rattle.step_model.specs.Replies.{Position}
 use Rattle.machine_model.specs.ContextMoves.{leaves}
 use Rattle.machine_model.specs.Domain.{DomainState, ForOthers, Next, Parked, ended, fiber_at, has_ended, moved_to, placed, stands, to_back, to_head}
 use Rattle.machine_model.specs.GroupMoves.{branched}
+use Rattle.machine_model.specs.Mock.{opening_domain}
 use Rattle.machine_model.specs.Steps.{strike_by}
 use Rattle.machine_model.specs.SwitchMoves.{fails, woken_if}
 use Rattle.waiting_laws.specs.InStep.{AreContexts}
@@ -49,6 +50,8 @@ pub record FibersInStep : Type 0 where
 -- ## Parts that are a call on the kept contexts
 
 pub record CallsInStep : Type 0 where
+  -- a domain that has just started has one context
+  pub starts : (number : ℕ) (texts : List (List ℕ)) (body : Block) → AreContexts (called Root no_contexts) (contexts_of (opening_domain number texts body))
   -- a new context has the same number, or there is room for it in neither
   pub roots : (kept : Contexts) (l : DomainState) → AreContexts kept (contexts_of l)
       → ((root kept.made).number ≡ (root l.contexts).number) × AreContexts (called Root kept) (contexts_of (record l { contexts = (root l.contexts).contexts }))
