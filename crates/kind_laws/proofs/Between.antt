@@ -32,7 +32,7 @@ is_of_script script (Begins number items) all = All-head (IsOfScript script) (Be
 fits_by_number : FitsByNumber
 fits_by_number script names slots block fits =
     let is = is_of_script script block fits.1 in
-    (is, subst (λ it. FitsBlock (facts_of script names) slots it) (sym is) fits)
+    (is.found, subst (λ it. FitsBlock (facts_of script names) slots it) (sym is.found) fits)
 
 all_fit : (facts : Facts) (bodies : List Block) → All (IsSoundBlock (in_body facts.declared)) bodies → All facts.blocks (flat_map blocks_from bodies)
     → All (FitsBlock facts []) bodies

@@ -1,7 +1,8 @@
 -- A fiber that goes into a switch's block, so that the premises of the laws can be met; and what the definitions refuse.
+use Rattle.std.specs.Prelude.{flat_map, Contains}
 use Rattle.std.proofs.Common.{◌≡◌, ℕ, ◌==◌, Bool, [], ◌∷◌, None, pos, refl, ap, arith}
 use Rattle.std.proofs.lemmas.Bool.{false≢true}
-use Rattle.std.proofs.lemmas.List.Elements.{All-nil, All-cons}
+use Rattle.std.proofs.lemmas.List.Elements.{All-nil, All-cons, Contains-get_or}
 use Rattle.std.proofs.lemmas.Option.{none-some, same_Some}
 use Rattle.eio_value.specs.declared.raised.Outcome.TheVariants as outcome
 use Rattle.eio_value.specs.declared.value.Value.TheVariants as value
@@ -50,13 +51,22 @@ forked_numbered : block_numbered script 2 ≡ forked
 unfolding block_numbered blocks_from blocks_of_statements blocks_of_statement
 forked_numbered = refl
 
+inner_its : Contains (flat_map blocks_from script.bodies) inner
+unfolding blocks_from blocks_of_statements blocks_of_statement
+inner_its = Contains-get_or (main ∷ inner ∷ forked ∷ []) 1 inner (omega arith)
+
+forked_its : Contains (flat_map blocks_from script.bodies) forked
+unfolding blocks_from blocks_of_statements blocks_of_statement
+forked_its = Contains-get_or (main ∷ inner ∷ forked ∷ []) 2 forked (omega arith)
+
 -- ## A fiber with kinds
 
 switch_fits : HasKindsOfCall facts [] (ask.Switch inner)
 unfolding IsSoundBlock AreSoundStatements IsSoundStatement blocks_from blocks_of_statements blocks_of_statement
 switch_fits = (
   ((tt, refl, (tt, tt)), tt),
-  All-cons facts.blocks inner (forked ∷ []) inner_numbered (All-cons facts.blocks forked [] forked_numbered (All-nil facts.blocks)),
+  All-cons facts.blocks inner (forked ∷ []) (record { its = inner_its; found = inner_numbered })
+      (All-cons facts.blocks forked [] (record { its = forked_its; found = forked_numbered }) (All-nil facts.blocks)),
 )
 
 nothing_behind : HasKindsOfWork facts [] []

@@ -5,7 +5,7 @@
 -- is answered with a value or with an exception. A value runs the statements that are left, and the ends of blocks cut the variables to those that they
 -- keep. An exception drops statements, and leaves the variables as they are up to the `try` or the end that it comes to. Statements may bring variables
 -- behind those that are there, so what stands behind them has kinds whatever was brought.
-use Rattle.std.specs.Prelude.{◌≡◌, ℕ, ◌≤◌, Bool, IsTrue, List, [], ◌∷◌, ◌++◌, length, take, All, pos}
+use Rattle.std.specs.Prelude.{◌≡◌, ℕ, ◌≤◌, Bool, IsTrue, List, [], ◌∷◌, ◌++◌, length, take, All, pos, flat_map, Contains}
 use Rattle.eio_value.specs.declared.value.Value.{Value}
 use Rattle.eio_value.specs.declared.value.Value.TheVariants as value
 use Rattle.script_model.specs.Kinds.{Kind, VariableKind, ContextKind, SwitchKind, ReaderKind, WriterKind, CapabilityKind, PromiseKind, MutexKind, PoolKind, ExecutorKind, FlowKind, DirectoryKind, object_kind, object_kind_with}
@@ -28,9 +28,10 @@ pub record Facts : Type 1 where
   pub names : Kind → ℕ → Type 0
   pub blocks : Block → Type 0
 
--- the block is the script's block of its number
-abbrev pub IsOfScript : Script → Block → Type 0
-IsOfScript script block = block_numbered script (number_of block) ≡ block
+-- the block is one of the script's, and is found there by its number
+pub record IsOfScript (script : Script) (block : Block) : Type 0 where
+  pub its : Contains (flat_map blocks_from script.bodies) block
+  pub found : block_numbered script (number_of block) ≡ block
 
 -- what is known of the fibers of a script, with a test on the numbers that slots name
 abbrev pub facts_of : Script → (names : Kind → ℕ → Bool) → Facts
