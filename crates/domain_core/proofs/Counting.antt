@@ -5,14 +5,12 @@ use Rattle.std.proofs.lemmas.List.Sums.{sum_by-cons}
 use Rattle.script_lang.specs.declared.node.Node.{Node}
 use Rattle.machine_model.specs.Domain as model
 use Rattle.machine_model.specs.Domain.{DomainState, fiber_at, has_ended, live_fibers}
-use Rattle.domain_core.specs.declared.fiber.Fiber.{Fiber}
-use Rattle.domain_core.specs.Keeping.{KeptDomain, kept_at}
+use Rattle.domain_core.specs.Keeping.{KeptFiber, KeptDomain, kept_at}
 use Rattle.domain_core.specs.Mirrors.{IsKept, Mirrors}
-use Rattle.domain_core.proofs.Mirroring.{standing_lives}
 
-lives_by : (nodes : List Node) (g : ℕ) (found : Option Fiber) (fiber : model.Fiber) → IsKept nodes g found fiber → not (has_ended fiber) ≡ is_some found
+lives_by : (nodes : List Node) (g : ℕ) (found : Option KeptFiber) (fiber : model.Fiber) → IsKept nodes g found fiber → not (has_ended fiber) ≡ is_some found
 lives_by nodes g None fiber it = ap not it
-lives_by nodes g (Some f) fiber it = ap not (standing_lives f.standing fiber it.standing)
+lives_by nodes g (Some f) fiber it = ap not it.lives
 
 abbrev one_if : Bool → ℕ
 one_if b = cond b 1 0
@@ -20,10 +18,10 @@ one_if b = cond b 1 0
 one_more_live : (fiber : model.Fiber) (fibers : List model.Fiber) → live_fibers (fiber ∷ fibers) ≡ one_if (not (has_ended fiber)) + live_fibers fibers
 one_more_live fiber fibers = sum_by-cons (λ (x : model.Fiber). one_if (not (has_ended x))) fiber fibers
 
-one_more_kept : (found : Option Fiber) (kept : List (Option Fiber)) → count_by is_some (found ∷ kept) ≡ one_if (is_some found) + count_by is_some kept
-one_more_kept found kept = sum_by-cons (λ (x : Option Fiber). one_if (is_some x)) found kept
+one_more_kept : (found : Option KeptFiber) (kept : List (Option KeptFiber)) → count_by is_some (found ∷ kept) ≡ one_if (is_some found) + count_by is_some kept
+one_more_kept found kept = sum_by-cons (λ (x : Option KeptFiber). one_if (is_some x)) found kept
 
-as_many : (kept : List (Option Fiber)) (fibers : List model.Fiber) → length fibers ≡ length kept
+as_many : (kept : List (Option KeptFiber)) (fibers : List model.Fiber) → length fibers ≡ length kept
     → ((g : ℕ) → not (has_ended (fiber_at fibers g)) ≡ is_some (kept_at kept g)) → live_fibers fibers ≡ count_by is_some kept
 as_many [] [] many each = refl
 as_many [] (fiber ∷ fibers) many each = absurd (omega (arith, many))

@@ -1,46 +1,30 @@
 -- `fork`: refused on both sides, or the limit of fibers is met on both, or a fiber is made.
-use Rattle.std.proofs.Common.{◌≡◌, inl, inr, ℕ, zero, suc, ◌+◌, ◌<◌, ◌≤◌, Bool, true, false, ◌||◌, List, [], ◌∷◌, length, Option, None}
-use Rattle.std.proofs.Common.{refl, ap, ap₂, ◌∙◌, sym, subst, true≢false, arith}
-use Rattle.std.specs.Prelude.{count_by, is_some, IsSome}
-use Rattle.std.specs.Option.{option_map}
+use Rattle.std.proofs.Common.{◌≡◌, ℕ, zero, suc, ◌+◌, ◌<◌, ◌≤◌, Bool, true, false, ◌||◌, List, [], ◌∷◌, length, refl, ap, ◌∙◌, sym, subst, true≢false, arith}
+use Rattle.std.specs.Prelude.{count_by, is_some}
 use Rattle.std.proofs.lemmas.Bool.{lt-ltb, le-ltb}
+use Rattle.eio_value.specs.declared.raised.Outcome.TheVariants as outcome
 use Rattle.eio_value.specs.declared.value.Value.TheVariants as value
+use Rattle.row_model.specs.Contexts.{is_live, off}
+use Rattle.row_model.specs.Switches.{Switch, switch_at, refuses_fibers, refuses_forks}
+use Rattle.script_lang.specs.Calls.{forking_of}
 use Rattle.script_lang.specs.Standing.{block_at}
 use Rattle.script_lang.specs.declared.node.Node.{Node}
 use Rattle.script_model.specs.Scripts.{Script}
-use Rattle.script_model.specs.Syntax.{Block}
 use Rattle.script_model.specs.Syntax as syntax
 use Rattle.step_model.specs.Asks as ask
-use Rattle.row_model.specs.Contexts.{is_live, off}
-use Rattle.row_model.specs.Switches.{Switch, switch_at, refuses_fibers, refuses_forks}
-use Rattle.cancel_tree.proofs.Forgotten.{forgets_nothing_live}
-use Rattle.trace_out.specs.declared.line.Did.TheVariants as did
 use Rattle.trace_out.specs.declared.line.Said2.TheVariants as said
-use Rattle.machine_model.specs.Domain.{DomainState, live_fibers, is_full_by, to_head}
+use Rattle.machine_model.specs.Domain.{DomainState, GoesOn, is_full_by, live_fibers, to_head}
 use Rattle.machine_model.specs.Moves.{own_call}
-use Rattle.machine_model.specs.Steps.{Step, does, halts}
-use Rattle.machine_model.specs.SwitchMoves.{makes}
-use Rattle.domain_core.specs.declared.fiber.Fiber.{Fiber}
-use Rattle.domain_core.specs.declared.standing.Next.TheVariants as next
+use Rattle.machine_model.specs.Steps.{Step, does, halts, told}
+use Rattle.machine_model.specs.SwitchMoves.{did_fork, makes}
 use Rattle.domain_core.specs.declared.told.Told.{Told}
-use Rattle.domain_core.specs.Answering.{Becomes, HasLiveContexts, Tells, forks}
-use Rattle.domain_core.specs.Keeping.{KeptDomain, kept_at, changed_at}
-use Rattle.domain_core.specs.Mirrors.{Mirrors, next_of}
-use Rattle.domain_core.proofs.ByNumber as numbers
-use Rattle.domain_core.proofs.ByNumber.{same_or_other}
-use Rattle.domain_core.proofs.ContextsAlike.{live_alike, off_alike}
+use Rattle.domain_core.specs.Answering.{BecomesUnder, MakesUnder, Tells, forking_by, forks}
+use Rattle.domain_core.specs.Conditions.{HasLiveContexts}
+use Rattle.domain_core.specs.Keeping.{KeptDomain}
+use Rattle.domain_core.specs.Mirrors.{Mirrors}
+use Rattle.domain_core.proofs.Composing.{makes_as}
 use Rattle.domain_core.proofs.Counting.{same_live}
-use Rattle.domain_core.proofs.Mirroring.{lives_changed, mirrors_as, tells_as}
-
--- a fiber lives on where something of one was changed
-pub lives_still : (fibers : List (Option Fiber)) (g h : ℕ) (change : Fiber → Fiber)
-    → IsSome (kept_at fibers h) → IsSome (kept_at (changed_at g change fibers) h)
-lives_still fibers g h change lives = elim (same_or_other h g) as (λ _. IsSome (kept_at (changed_at g change fibers) h)) [
-  | inl e ↦ subst (λ (m : ℕ). IsSome (kept_at (changed_at m change fibers) h)) e (lives_changed fibers h change lives)
-  | inr other ↦
-      let same = numbers.others_unchanged None fibers g h (option_map change (kept_at fibers g)) other in
-      subst (λ (o : Option Fiber). IsSome o) (sym same) lives
-]
+use Rattle.domain_core.proofs.Scoping.{answers_alike, live_there}
 
 -- ## What is refused
 
@@ -61,86 +45,87 @@ opened_below (s ∷ switches) zero unfinished = omega arith
 opened_below (s ∷ switches) (suc n) unfinished = let below : n < length switches = opened_below switches n unfinished in omega arith
 
 module _ (nodes : List Node) (texts : List (List ℕ)) (kept : KeptDomain) (l : DomainState) (mirrors : Mirrors nodes texts kept l)
-    (script : Script) (live : HasLiveContexts kept) (n : ℕ) where
+    (live : HasLiveContexts kept) (n : ℕ) where
   same_off : refuses_fibers (switch_at kept.switches n) ≡ false
       → off l.contexts (switch_at kept.switches n).context ≡ off kept.contexts.made (switch_at kept.switches n).context
   same_off takes = (
       let s : Switch = switch_at kept.switches n in
       let unfinished : s.finished ≡ false = unfinished_by s.finished s.running takes in
-      let lives_there : is_live kept.contexts.made s.context ≡ true = live n (opened_below kept.switches n unfinished) unfinished in
-      let lives : is_live l.contexts s.context ≡ true =
-      sym (live_alike forgets_nothing_live kept.contexts l.contexts mirrors.contexts s.context) ∙ lives_there in
-      sym (off_alike forgets_nothing_live kept.contexts l.contexts mirrors.contexts s.context lives))
+      let lives : is_live kept.contexts.made s.context ≡ true = live n (opened_below kept.switches n unfinished) unfinished in
+      sym ((answers_alike nodes texts kept l mirrors).off s.context (live_there nodes texts kept l mirrors s.context lives)))
 
   -- what is kept refuses forks where the domain does
-  refuses_alike : refuses_forks l.contexts (switch_at l.switches n) ≡ refuses_forks kept.contexts.made (switch_at kept.switches n)
+  pub refuses_alike : refuses_forks l.contexts (switch_at l.switches n) ≡ refuses_forks kept.contexts.made (switch_at kept.switches n)
   refuses_alike = (
       let s : Switch = switch_at kept.switches n in
       ap (λ (xs : List Switch). refuses_forks l.contexts (switch_at xs n)) mirrors.switches
       ∙ or_with (is_some (off l.contexts s.context)) (is_some (off kept.contexts.made s.context)) (refuses_fibers s)
       (λ takes. ap is_some (same_off takes)))
 
-  -- ## What the call comes to
+-- ## What the call comes to
 
-  module _ (block : Block) (g : ℕ) where
-    abbrev limited_by : (full : Bool) → Step
-    limited_by full = elim full [ true ↦ halts g l | false ↦ makes syntax.Plain n block g l ]
+module _ (script : Script) (daemon : Bool) (n g : ℕ) where
+  abbrev how : syntax.Forking
+  how = forking_of (forking_by daemon)
 
-    abbrev refused_by : (refused : Bool) → Step
-    refused_by refused = elim refused [
-      | true ↦ record (does (did.Fork n) g l) { reply = said.Nothing }
-      | false ↦ limited_by (is_full_by 1 l.fibers)
-    ]
+  -- it is refused
+  abbrev refuses : DomainState → Step
+  refuses l = record (does (did_fork how n) g l) { reply = said.Nothing }
 
-    calls_fork : own_call script (ask.Fork syntax.Plain n block) g l ≡ refused_by (refuses_forks kept.contexts.made (switch_at kept.switches n))
+  abbrev limited_by : syntax.Block → DomainState → (full : Bool) → Step
+  limited_by block l full = elim full [ true ↦ halts g l | false ↦ makes how n block g l ]
+
+  abbrev refused_by : syntax.Block → DomainState → (refused : Bool) → Step
+  refused_by block l refused = elim refused [ true ↦ refuses l | false ↦ limited_by block l (is_full_by 1 l.fibers) ]
+
+  -- the new fiber stands first in the ready list, its maker second
+  abbrev forks_at_head : (new body : ℕ) → List Node → DomainState → DomainState
+  forks_at_head new body nodes l = to_head (GoesOn (outcome.Ok value.Unit)) new (to_head (GoesOn (outcome.Ok value.Unit)) g (forks g n daemon body nodes l))
+
+  module _ (nodes : List Node) (kept : KeptDomain) (live : HasLiveContexts kept) (it : Told) (new : KeptDomain) where
+    calls_fork : (block : syntax.Block) (texts : List (List ℕ)) (l : DomainState) → Mirrors nodes texts kept l
+        → own_call script (ask.Fork how n block) g l ≡ refused_by block l (refuses_forks kept.contexts.made (switch_at kept.switches n))
     unfolding own_call
-    calls_fork = ap refused_by refuses_alike
+    calls_fork block texts l mirrors = ap (refused_by block l) (refuses_alike nodes texts kept l mirrors live n)
 
-    pub refused_there : refuses_forks kept.contexts.made (switch_at kept.switches n) ≡ true
-        → own_call script (ask.Fork syntax.Plain n block) g l ≡ record (does (did.Fork n) g l) { reply = said.Nothing }
-    refused_there is = calls_fork ∙ ap refused_by is
+    pub makes_refused : (block : syntax.Block) → refuses_forks kept.contexts.made (switch_at kept.switches n) ≡ true
+        → MakesUnder nodes refuses kept it new → MakesUnder nodes (own_call script (ask.Fork how n block) g) kept it new
+    makes_refused block is made = makes_as nodes _ refuses kept it new (λ texts l mirrors. calls_fork block texts l mirrors ∙ ap (refused_by block l) is) made
 
     module _ (takes : refuses_forks kept.contexts.made (switch_at kept.switches n) ≡ false) where
-      -- as many live as are kept
-      many : live_fibers l.fibers ≡ count_by is_some kept.fibers
-      many = same_live nodes texts kept l mirrors
+      pub makes_full : (block : syntax.Block) → 1024 ≤ count_by is_some kept.fibers
+          → MakesUnder nodes (halts g) kept it new → MakesUnder nodes (own_call script (ask.Fork how n block) g) kept it new
+      makes_full block full made = makes_as nodes _ (halts g) kept it new (λ texts l mirrors. (
+          let same : live_fibers l.fibers ≡ count_by is_some kept.fibers = same_live nodes texts kept l mirrors in
+          calls_fork block texts l mirrors ∙ (ap (refused_by block l) takes
+          ∙ ap (limited_by block l) (lt-ltb 1024 (live_fibers l.fibers + 1) (omega (arith, full, same)))))) made
 
-      pub full_there : 1024 ≤ count_by is_some kept.fibers → own_call script (ask.Fork syntax.Plain n block) g l ≡ halts g l
-      full_there full = (
-          let same : live_fibers l.fibers ≡ count_by is_some kept.fibers = many in
-          calls_fork ∙ (ap refused_by takes ∙ ap limited_by (lt-ltb 1024 (live_fibers l.fibers + 1) (omega (arith, full, same)))))
+      makes_there : (block : syntax.Block) → count_by is_some kept.fibers < 1024 → (texts : List (List ℕ)) (l : DomainState) → Mirrors nodes texts kept l
+          → own_call script (ask.Fork how n block) g l ≡ makes how n block g l
+      makes_there block room texts l mirrors = (
+          let same : live_fibers l.fibers ≡ count_by is_some kept.fibers = same_live nodes texts kept l mirrors in
+          calls_fork block texts l mirrors ∙ (ap (refused_by block l) takes
+          ∙ ap (limited_by block l) (le-ltb 1024 (live_fibers l.fibers + 1) (omega (arith, room, same)))))
 
-      pub makes_there : count_by is_some kept.fibers < 1024 → own_call script (ask.Fork syntax.Plain n block) g l ≡ makes syntax.Plain n block g l
-      makes_there room = (
-          let same : live_fibers l.fibers ≡ count_by is_some kept.fibers = many in
-          calls_fork ∙ (ap refused_by takes ∙ ap limited_by (le-ltb 1024 (live_fibers l.fibers + 1) (omega (arith, room, same)))))
+      -- whether it is a daemon or not
+      makes_so : (is_daemon : Bool) (body : ℕ) (l : DomainState)
+          → makes (forking_of (forking_by is_daemon)) n (block_at nodes body) g l
+          ≡ told g (did_fork (forking_of (forking_by is_daemon)) n) (said.Fiber l.number (length l.fibers))
+          (to_head (GoesOn (outcome.Ok value.Unit)) (length l.fibers) (to_head (GoesOn (outcome.Ok value.Unit)) g (forks g n is_daemon body nodes l)))
+      makes_so true body l = refl
+      makes_so false body l = refl
 
-  -- a fiber is made, and both stand at the head, the new one first
-  module _ (takes : refuses_forks kept.contexts.made (switch_at kept.switches n) ≡ false) (room : count_by is_some kept.fibers < 1024)
-      (body g new : ℕ) (is_new : new ≡ length kept.fibers) (made once last : KeptDomain)
-      (forked : Mirrors nodes texts made (forks g n body nodes l))
-      (maker_first : Becomes (λ m. to_head (next_of (next.GoesOn value.Unit)) g m) made once)
-      (new_first : Becomes (λ m. to_head (next_of (next.GoesOn value.Unit)) new m) once last) where
-    there : own_call script (ask.Fork syntax.Plain n (block_at nodes body)) g l ≡ makes syntax.Plain n (block_at nodes body) g l
-    there = makes_there (block_at nodes body) g takes room
-
-    same_new : new ≡ length l.fibers
-    same_new = is_new ∙ sym mirrors.count
-
-    -- the domain once its maker stands at the head
-    abbrev behind : DomainState
-    behind = to_head (next_of (next.GoesOn value.Unit)) g (forks g n body nodes l)
-
-    last_mirrors : Mirrors nodes texts last (makes syntax.Plain n (block_at nodes body) g l).state
-    last_mirrors =
-        subst (λ (m : ℕ). Mirrors nodes texts last (to_head (next_of (next.GoesOn value.Unit)) m behind)) same_new
-        (new_first nodes texts behind (maker_first nodes texts (forks g n body nodes l) forked))
-
-    pub made_becomes : Mirrors nodes texts last (own_call script (ask.Fork syntax.Plain n (block_at nodes body)) g l).state
-    made_becomes = mirrors_as nodes texts last _ _ there last_mirrors
-
-    pub made_tells : (told : Told) → told ≡ record { fiber = g; did = did.Fork n; reply = said.Fiber last.number new }
-        → Tells (own_call script (ask.Fork syntax.Plain n (block_at nodes body)) g l) told
-    made_tells told is =
-        subst (λ (x : Told). Tells (own_call script (ask.Fork syntax.Plain n (block_at nodes body)) g l) x) (sym is)
-        (tells_as _ _ _ there (record { fiber = refl; did = refl; reply = ap₂ said.Fiber last_mirrors.number (sym same_new); raises = refl }))
+      pub makes_forked : (body number : ℕ) → number ≡ length kept.fibers → count_by is_some kept.fibers < 1024
+          → it ≡ record { fiber = g; did = did_fork how n; reply = said.Fiber kept.number number }
+          → BecomesUnder nodes (forks_at_head number body nodes) kept new
+          → MakesUnder nodes (own_call script (ask.Fork how n (block_at nodes body)) g) kept it new
+      makes_forked body number is_number room is_told becomes =
+          makes_as nodes _ (λ l. told g (did_fork how n) (said.Fiber l.number number) (forks_at_head number body nodes l)) kept it new
+          (λ texts l mirrors.
+          makes_there (block_at nodes body) room texts l mirrors ∙ (makes_so daemon body l
+          ∙ ap (λ (m : ℕ). told g (did_fork how n) (said.Fiber l.number m) (forks_at_head m body nodes l)) (mirrors.count ∙ sym is_number)))
+          (record {
+            tells = λ texts l mirrors. subst (λ (x : Told). Tells (told g (did_fork how n) (said.Fiber l.number number) (forks_at_head number body nodes l)) x) (sym is_told)
+                (record { fiber = refl; did = refl; reply = ap (λ (m : ℕ). said.Fiber m number) mirrors.number });
+            becomes = becomes;
+          })

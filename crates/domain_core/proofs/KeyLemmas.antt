@@ -1,23 +1,20 @@
 -- The fibers that are kept under keys, as the list by their numbers.
 use Rattle.std.proofs.Common.{◌≡◌, ◌≢◌, ◌⊎◌, inl, inr, ℕ, zero, suc, ◌+◌, ◌<◌, ◌≤◌, Bool, true, List, [], ◌∷◌, ◌++◌, length, slice_set, Option, Some, None, refl, ap, ap₂, ◌∙◌, sym, subst, cond, true≢false, arith}
 use Rattle.std.specs.Prelude.{slice_get, slice_index_or, count_by, is_some, IsSome}
-use Rattle.std.specs.Option.{option_map}
 use Rattle.std.proofs.lemmas.Option.{none-some, same_Some}
 use Rattle.std.proofs.lemmas.List.Sums.{sum_by-cons}
 use Rattle.slab.proofs.SlabLemmas.{Updates-with_value}
 use Rattle.slab.specs.Slab.{Slab, get, slab_len, with_value, Updates}
 use Rattle.domain_core.specs.declared.fiber.Fiber.{Fiber}
-use Rattle.domain_core.specs.Keeping.{kept_at, changed_at}
-use Rattle.fiber_step.specs.Kept.{Kept}
-use Rattle.domain_core.specs.Stepping.{Reframes}
-use Rattle.domain_core.specs.Keyed.{kept_under, fibers_in, HasKey, AreKeyed}
+use Rattle.domain_core.specs.Keeping.{kept_at}
+use Rattle.domain_core.specs.Keyed.{kept_under, kept_in, HasKey, AreKeyed}
 use Rattle.domain_core.proofs.ByNumber.{same_or_other}
 
 -- what is kept under the key of a number, if it has one
 abbrev pub under : Slab Fiber → Option (Option ℕ) → Option Fiber
 under kept found = elim found [ None ↦ None | Some key ↦ kept_under kept key ]
 
-pub looked_up : (keys : List (Option ℕ)) (kept : Slab Fiber) (n : ℕ) → kept_at (fibers_in keys kept) n ≡ under kept (slice_get keys n)
+pub looked_up : (keys : List (Option ℕ)) (kept : Slab Fiber) (n : ℕ) → kept_at (kept_in keys kept) n ≡ under kept (slice_get keys n)
 looked_up [] kept n = refl
 looked_up (key ∷ keys) kept zero = refl
 looked_up (key ∷ keys) kept (suc n) = looked_up keys kept n
@@ -28,7 +25,7 @@ has_key_by kept None is = absurd (true≢false (sym is))
 has_key_by kept (Some None) is = absurd (true≢false (sym is))
 has_key_by kept (Some (Some key)) is = (key, refl)
 
-pub has_key : (keys : List (Option ℕ)) (kept : Slab Fiber) (n : ℕ) → IsSome (kept_at (fibers_in keys kept) n) → HasKey keys n
+pub has_key : (keys : List (Option ℕ)) (kept : Slab Fiber) (n : ℕ) → IsSome (kept_at (kept_in keys kept) n) → HasKey keys n
 has_key keys kept n is = has_key_by kept (slice_get keys n) (subst (λ (o : Option Fiber). IsSome o) (looked_up keys kept n) is)
 
 pub key_below : {X : Type 0} (xs : List X) (n : ℕ) (x : X) → slice_get xs n ≡ Some x → n < length xs
@@ -37,12 +34,12 @@ key_below (y ∷ xs) zero x e = omega arith
 key_below (y ∷ xs) (suc n) x e = (let h : n < length xs = key_below xs n x e in omega arith)
 
 -- as many were made as have had keys
-pub made_is : (keys : List (Option ℕ)) (kept : Slab Fiber) → length (fibers_in keys kept) ≡ length keys
+pub made_is : (keys : List (Option ℕ)) (kept : Slab Fiber) → length (kept_in keys kept) ≡ length keys
 made_is [] kept = refl
 made_is (key ∷ keys) kept = ap suc (made_is keys kept)
 
 -- and the fiber is the one under that key
-pub kept_by_key : (keys : List (Option ℕ)) (kept : Slab Fiber) (n key : ℕ) → slice_get keys n ≡ Some (Some key) → kept_at (fibers_in keys kept) n ≡ get kept key
+pub kept_by_key : (keys : List (Option ℕ)) (kept : Slab Fiber) (n key : ℕ) → slice_get keys n ≡ Some (Some key) → kept_at (kept_in keys kept) n ≡ get kept key
 kept_by_key keys kept n key is = looked_up keys kept n ∙ ap (under kept) is
 
 -- ## How many
@@ -89,23 +86,23 @@ one_more_counted (first ∷ slots) x =
     omega (arith, more, now, was)
 
 -- so many are kept as have keys
-pub live_count : (keys : List (Option ℕ)) (kept : Slab Fiber) → ((n key : ℕ) → slice_get keys n ≡ Some (Some key) → is_some (get kept key) ≡ true) → count_by is_some (fibers_in keys kept) ≡ count_by is_some keys
+pub live_count : (keys : List (Option ℕ)) (kept : Slab Fiber) → ((n key : ℕ) → slice_get keys n ≡ Some (Some key) → is_some (get kept key) ≡ true) → count_by is_some (kept_in keys kept) ≡ count_by is_some keys
 live_count [] kept found = refl
 live_count (None ∷ keys) kept found = live_count keys kept (λ n. found (suc n))
 live_count (Some key ∷ keys) kept found =
-    let rest : count_by is_some (fibers_in keys kept) ≡ count_by is_some keys = live_count keys kept (λ n. found (suc n)) in
-    counted (get kept key) (fibers_in keys kept) ∙ (ap₂ (λ b n. one_if b + n) (found zero key refl) rest ∙ sym (counted (Some key) keys))
+    let rest : count_by is_some (kept_in keys kept) ≡ count_by is_some keys = live_count keys kept (λ n. found (suc n)) in
+    counted (get kept key) (kept_in keys kept) ∙ (ap₂ (λ b n. one_if b + n) (found zero key refl) rest ∙ sym (counted (Some key) keys))
 
 -- ## The list
 
 -- another slab in which each key that is had leads to the same
-pub same_list : (keys : List (Option ℕ)) (old new : Slab Fiber) → ((n key : ℕ) → slice_get keys n ≡ Some (Some key) → get new key ≡ get old key) → fibers_in keys new ≡ fibers_in keys old
+pub same_list : (keys : List (Option ℕ)) (old new : Slab Fiber) → ((n key : ℕ) → slice_get keys n ≡ Some (Some key) → get new key ≡ get old key) → kept_in keys new ≡ kept_in keys old
 same_list [] old new same = refl
 same_list (None ∷ keys) old new same = ap (λ rest. None ∷ rest) (same_list keys old new (λ n. same (suc n)))
 same_list (Some key ∷ keys) old new same = ap₂ (λ first rest. first ∷ rest) (same zero key refl) (same_list keys old new (λ n. same (suc n)))
 
 -- one more at the end
-pub one_more_key : (keys : List (Option ℕ)) (kept : Slab Fiber) (key : ℕ) → fibers_in (keys ++ Some key ∷ []) kept ≡ fibers_in keys kept ++ get kept key ∷ []
+pub one_more_key : (keys : List (Option ℕ)) (kept : Slab Fiber) (key : ℕ) → kept_in (keys ++ Some key ∷ []) kept ≡ kept_in keys kept ++ get kept key ∷ []
 one_more_key [] kept key = refl
 one_more_key (first ∷ keys) kept key = ap (λ rest. kept_under kept first ∷ rest) (one_more_key keys kept key)
 
@@ -114,7 +111,7 @@ pub one_changed : (keys : List (Option ℕ)) (old new : Slab Fiber) (n key : ℕ
     → slice_get keys n ≡ Some (Some key)
     → get new key ≡ Some fiber
     → ((m other : ℕ) → m ≢ n → slice_get keys m ≡ Some (Some other) → get new other ≡ get old other)
-    → fibers_in keys new ≡ slice_set (fibers_in keys old) n (Some fiber)
+    → kept_in keys new ≡ slice_set (kept_in keys old) n (Some fiber)
 one_changed [] old new n key fiber has is same = absurd (none-some _ has)
 one_changed (first ∷ keys) old new zero key fiber has is same =
     ap₂ (λ f rest. f ∷ rest) (ap (kept_under new) (same_Some _ _ has) ∙ is) (same_list keys old new (λ m other. same (suc m) other (λ e. omega (arith, e))))
@@ -124,7 +121,7 @@ one_changed (None ∷ keys) old new (suc n) key fiber has is same = ap (λ rest.
 -- the fiber of one number gone
 pub one_gone : (keys : List (Option ℕ)) (old new : Slab Fiber) (n : ℕ)
     → ((m other : ℕ) → m ≢ n → slice_get keys m ≡ Some (Some other) → get new other ≡ get old other)
-    → fibers_in (slice_set keys n None) new ≡ slice_set (fibers_in keys old) n None
+    → kept_in (slice_set keys n None) new ≡ slice_set (kept_in keys old) n None
 one_gone [] old new n same = refl
 one_gone (first ∷ keys) old new zero same = ap (λ rest. None ∷ rest) (same_list keys old new (λ m other. same (suc m) other (λ e. omega (arith, e))))
 one_gone (None ∷ keys) old new (suc n) same = ap (λ rest. None ∷ rest) (one_gone keys old new n (λ m other not. same (suc m) other (λ e. not (omega (arith, e)))))
@@ -159,7 +156,7 @@ module _ (keys : List (Option ℕ)) (kept : Slab Fiber) (keyed : AreKeyed keys k
   pub all_found : (n key : ℕ) → slice_get keys n ≡ Some (Some key) → is_some (get kept key) ≡ true
   all_found n key has = (let there = keyed.found n key has in ap is_some there.1)
 
-  pub live_is : slab_len kept ≡ count_by is_some (fibers_in keys kept)
+  pub live_is : slab_len kept ≡ count_by is_some (kept_in keys kept)
   live_is = keyed.many ∙ sym (live_count keys kept all_found)
 
   -- two numbers with one key are one
@@ -179,7 +176,7 @@ module _ (keys : List (Option ℕ)) (kept : Slab Fiber) (keyed : AreKeyed keys k
       others : (m other : ℕ) → m ≢ n → slice_get keys m ≡ Some (Some other) → get (with_value kept key fiber) other ≡ get kept other
       others m other not has_other = updated.others other (apart n m key other has has_other not)
 
-      pub changed_list : fibers_in keys (with_value kept key fiber) ≡ slice_set (fibers_in keys kept) n (Some fiber)
+      pub changed_list : kept_in keys (with_value kept key fiber) ≡ slice_set (kept_in keys kept) n (Some fiber)
       changed_list = one_changed keys kept (with_value kept key fiber) n key fiber has updated.changed others
 
       found_then : (m other : ℕ) → slice_get keys m ≡ Some (Some other) → (f : Fiber) × (get (with_value kept key fiber) other ≡ Some f) × (f.number ≡ m)
@@ -197,32 +194,9 @@ module _ (keys : List (Option ℕ)) (kept : Slab Fiber) (keyed : AreKeyed keys k
         room = keyed.room;
       }
 
-    -- the list where the change is known by what stood there
-    module _ (change : Fiber → Fiber) (was : Fiber) (stood : get kept key ≡ Some was) (number : (change was).number ≡ n) where
-      pub changed_view : fibers_in keys (with_value kept key (change was)) ≡ changed_at n change (fibers_in keys kept)
-      changed_view =
-          changed_list (change was) number
-          ∙ ap (λ o. slice_set (fibers_in keys kept) n (option_map change o)) (sym (kept_by_key keys kept n key has ∙ stood))
-
-    -- it has other frames
-    module _ (was : Fiber) (stood : get kept key ≡ Some was) (frames : Kept) where
-      pub its_number : was.number ≡ n
-      its_number = (let there = keyed.found n key has in ap (λ (f : Fiber). f.number) (same_Some _ _ (sym stood ∙ there.1)) ∙ there.2)
-
-      pub reframed_keyed : AreKeyed keys (with_value kept key (record was { frames = frames }))
-      reframed_keyed = changed_keyed (record was { frames = frames }) its_number
-
-      abbrev pub reframed : Reframes n (fibers_in keys kept) (fibers_in keys (with_value kept key (record was { frames = frames })))
-      reframed = record {
-        fiber = was;
-        there = kept_by_key keys kept n key has ∙ stood;
-        frames = frames;
-        is = changed_view (λ it. record it { frames = frames }) was stood its_number;
-      }
-
     -- the fiber of this number gone
     module _ (fewer : Slab Fiber) (updates : Updates kept fewer key None) where
-      pub gone_list : fibers_in (slice_set keys n None) fewer ≡ slice_set (fibers_in keys kept) n None
+      pub gone_list : kept_in (slice_set keys n None) fewer ≡ slice_set (kept_in keys kept) n None
       gone_list = one_gone keys kept fewer n (λ m other not has_other. updates.others other (apart n m key other has has_other not))
 
       found_gone : (m other : ℕ) → slice_get (slice_set keys n None) m ≡ Some (Some other) → (f : Fiber) × (get fewer other ≡ Some f) × (f.number ≡ m)
@@ -249,7 +223,7 @@ module _ (keys : List (Option ℕ)) (kept : Slab Fiber) (keyed : AreKeyed keys k
     not_had : (n other : ℕ) → slice_get keys n ≡ Some (Some other) → other ≢ key
     not_had n other has e = (let there = keyed.found n other has in none-some _ (sym vacant ∙ (ap (get kept) (sym e) ∙ there.1)))
 
-    pub added_list : fibers_in (keys ++ Some key ∷ []) more ≡ fibers_in keys kept ++ Some fiber ∷ []
+    pub added_list : kept_in (keys ++ Some key ∷ []) more ≡ kept_in keys kept ++ Some fiber ∷ []
     added_list =
         one_more_key keys more key
         ∙ ap₂ (λ front last. front ++ last ∷ []) (same_list keys kept more (λ n other has. updates.others other (not_had n other has))) updates.changed

@@ -15,27 +15,28 @@ use Rattle.eio_value.specs.Fitting.{Bounds, Submit, FitsMessage}
 use Rattle.eio_value.specs.Waits.{Open, IsForOpen}
 use Rattle.row_model.specs.ReadyList.{pop}
 use Rattle.script_lang.specs.Flat.{nodes_of}
-use Rattle.script_laws.specs.FirstForms.{HasFirstForms}
 use Rattle.script_model.specs.Scripts.{Script}
 use Rattle.trace_out.specs.declared.line.Did.{Did}
 use Rattle.trace_out.specs.declared.line.Line.{Line}
 use Rattle.trace_out.specs.declared.line.Said2.{Said2}
 use Rattle.machine_model.specs.Asking.{asks_by}
-use Rattle.machine_model.specs.Domain.{DomainState, fiber_at}
+use Rattle.machine_model.specs.Domain.{Duty, DomainState}
 use Rattle.machine_model.specs.Labels.{Inner, Idle}
 use Rattle.machine_model.specs.Moves.{asks, after, line_of, own_move}
-use Rattle.machine_model.specs.Preparing.{Owes, Rests, Ticks, Prepared, prepared, at_once, moves, prepared_ready, prepared_timers}
+use Rattle.machine_model.specs.Preparing.{Rests, Ticks, Prepared, prepared, at_once}
 use Rattle.machine_model.specs.Runs.{Noted, DomainMoves}
+use Rattle.domain_laws.specs.SoundStates.{IsSoundState}
+use Rattle.domain_laws.proofs.Preparing.{by_duties, by_ready}
+use Rattle.well_laws.specs.WellStates.{IsRunnable}
+use Rattle.well_laws.proofs.Standing.{keeps_well}
 use Rattle.domain_core.specs.declared.told.Told.{Told}
+use Rattle.domain_core.specs.declared.turn.Turn.TheVariants.{Moved}
 use Rattle.domain_core.specs.Answering.{SameCounts}
-use Rattle.domain_core.specs.FirstStates.{IsFirstState}
 use Rattle.domain_core.specs.Keeping.{KeptDomain}
 use Rattle.domain_core.specs.Mirrors.{Mirrors}
-use Rattle.domain_core.specs.Moving.{with_head, MovesOwn}
+use Rattle.domain_core.specs.Moving.{MovesOwn}
 use Rattle.domain_core.specs.Turns as turns
 use Rattle.domain_core.specs.Turns.{StandsFor}
-use Rattle.domain_core.specs.declared.turn.Turn.TheVariants.{Moved}
-use Rattle.domain_core.proofs.FirstKept.{keeps_first}
 
 -- ## The look for a message
 
@@ -52,14 +53,14 @@ no_message bounds is_open (Some (message.Start job number stamp)) waited fits cl
 
 -- ## Nothing to do
 
--- nobody is ready, and so nothing is done next
-pub rests : (l : DomainState) → IsFirstState l → l.ready ≡ [] → asks l ≡ Idle
+-- nothing is owed and nobody is ready, and so nothing is done next
+pub rests : (l : DomainState) → IsSoundState l → l.duties ≡ [] → l.ready ≡ [] → asks l ≡ Idle
 unfolding asks prepared
-rests l first none = (
+rests l sound owes none = (
     let there : prepared l ≡ at_once Rests l =
-    ap (λ ds. elim ds as (λ _. Prepared) [ [] ↦ prepared_ready l | duty ∷ rest ↦ at_once (Owes duty) (record l { duties = rest }) ]) first.owes
-    ∙ (ap (λ rs. elim rs as (λ _. Prepared) [ [] ↦ prepared_timers l | h ∷ rest ↦ moves h (fiber_at l.fibers h) (record l { ready = rest }) ]) none
-    ∙ ap (λ ts. elim ts as (λ _. Prepared) [ [] ↦ at_once Rests l | timer ∷ rest ↦ at_once Ticks l ]) first.sleeps) in
+    ap (by_duties l) owes
+    ∙ (ap (by_ready l) none
+    ∙ ap (λ ts. elim ts as (λ _. Prepared) [ [] ↦ at_once Rests l | timer ∷ rest ↦ at_once Ticks l ]) sound.sleeps) in
     ap asks_by there)
 
 -- nobody stood in the ready list, or this fiber stood first
@@ -71,9 +72,9 @@ pub one_popped : (ready : List ℕ) (g : ℕ) → (pop ready).fiber ≡ Some g �
 one_popped [] g is = absurd (none-some _ is)
 one_popped (h ∷ others) g is = ap (λ (n : ℕ). n ∷ others) (same_Some _ _ is)
 
--- where it was empty the domain is as it was
-pub same_popped : (view old : KeptDomain) (ready : List ℕ) → ready ≡ view.ready → view ≡ old → record view { ready = ready } ≡ old
-same_popped view old ready e is = ap (λ (xs : List ℕ). record view { ready = xs }) e ∙ is
+-- what is owed and who is ready put in place again
+pub again : (view now : KeptDomain) → view ≡ now → (owed : List Duty) (ready : List ℕ) → owed ≡ view.owed → ready ≡ view.ready → record view { owed = owed; ready = ready } ≡ now
+again view now is owed ready same_owed same_ready = ap₂ (λ (os : List Duty) (rs : List ℕ). record view { owed = os; ready = rs }) same_owed same_ready ∙ is
 
 -- ## The line
 
@@ -90,15 +91,10 @@ module _
     (receives : O → Option Message → O → Type 0)
     (extras : O → List (List ℕ) → MockCall → ℕ → Extra → List (List ℕ) → O → Type 0)
     (learns : O → List (List ℕ) → O → Type 0)
-    (script : Script) (built : HasFirstForms script) (old_texts texts : List (List ℕ)) (old : KeptDomain) (g : ℕ) (others : List ℕ) (is : old.ready ≡ g ∷ others)
-    (told : Told) (mid : KeptDomain)
-    (moved : (l : DomainState) → StandsFor script old_texts (with_head g (record old { ready = others })) l → MovesOwn script texts l told mid)
-    (same : SameCounts (record old { ready = others }) mid)
-    (runs : old.halted ≡ false) (before behind : O) (found : receives before None behind) where
-  -- the fiber that was taken stands first again
-  head_again : record old { ready = g ∷ others } ≡ old
-  head_again = ap (λ (xs : List ℕ). record old { ready = xs }) (sym is)
-
+    (script : Script) (runnable : IsRunnable script) (old_texts texts : List (List ℕ)) (old : KeptDomain) (told : Told) (mid : KeptDomain)
+    (moved : (l : DomainState) → StandsFor script old_texts old l → MovesOwn script texts l told mid)
+    (same : SameCounts old mid)
+    (runs : old.halted ≡ false) (before behind : O) (looked : turns.Looked calls strikes receives extras learns old.owed before behind) where
   abbrev line : Line
   line = record { stamp = mid.stamp + 1; domain = mid.number; fiber = told.fiber; did = told.did; reply = told.reply }
 
@@ -110,7 +106,10 @@ module _
 
   module _ (l : DomainState) (stands : StandsFor script old_texts old l) where
     it : MovesOwn script texts l told mid
-    it = moved l (subst (λ (kept : KeptDomain). StandsFor script old_texts kept l) (sym head_again) stands)
+    it = moved l stands
+
+    goes : l.halted ≡ false
+    goes = stands.mirrors.halted ∙ runs
 
     same_stamp : mid.stamp ≡ l.stamp
     same_stamp = same.stamp ∙ sym stands.mirrors.stamp
@@ -122,7 +121,7 @@ module _
 
     domain_moves : DomainMoves script l noted (after script l (mid.stamp + 1) Inner)
     domain_moves = record {
-      runs = stands.mirrors.halted ∙ runs;
+      runs = goes;
       fits = it.own;
       later = omega (arith, same_stamp);
       told = line_is;
@@ -137,8 +136,10 @@ module _
       fibers = step.fibers;
       came = step.came;
       ready = step.ready;
+      duties = step.duties;
       contexts = step.contexts;
       switches = step.switches;
+      groups = step.groups;
       texts = step.texts;
       serial = step.serial;
       stamp = refl;
@@ -146,17 +147,17 @@ module _
       halted = step.halted;
     })
 
-    pub moves_to : (k : DomainState) × StandsFor script texts new k × turns.MadeLine calls strikes receives extras learns script l line k before behind
+    moves_to : (k : DomainState) × StandsFor script texts new k × turns.MadeLine calls strikes receives extras learns script l line k before behind
     moves_to = (
       after script l (mid.stamp + 1) Inner,
-      record { mirrors = counted; first = keeps_first script l _ noted built stands.first refl domain_moves },
+      record { mirrors = counted; well = λ then. keeps_well script l (after script l (mid.stamp + 1) Inner) noted runnable (stands.well goes) refl domain_moves then },
       record {
         label = Inner;
         moves = domain_moves;
         came = (
           record {
             between = behind;
-            looked = subst (λ duties. turns.Looked calls strikes receives extras learns duties before behind) (sym stands.first.owes) found;
+            looked = subst (λ duties. turns.Looked calls strikes receives extras learns duties before behind) (sym stands.mirrors.duties) looked;
             learned = inl (it.texts, refl);
           },
           ap (λ (n : ℕ). n + 1) same_stamp,
@@ -164,7 +165,7 @@ module _
       },
     )
 
-  pub turned : old.lines < old.budget → texts ≡ old_texts → turns.Turns calls strikes receives extras learns script (Moved line) old_texts texts old new before behind
+  turned : old.lines < old.budget → texts ≡ old_texts → turns.Turns calls strikes receives extras learns script (Moved line) old_texts texts old new before behind
   turned few table = (
     (runs, few),
     ap (λ (n : ℕ). n + 1) same.lines,
@@ -174,24 +175,11 @@ module _
     moves_to,
   )
 
--- the same of what was seen of the domain before, of what the ready list was popped to, and of the line and the domain that came of it
-pub made_turn :
-    {O : Type 0}
-    (calls : O → Waiter → Bool → ℕ → ℕ → Call → Answered → O → Type 0)
-    (strikes : O → Waiter → ℕ → Struck → O → Type 0)
-    (receives : O → Option Message → O → Type 0)
-    (extras : O → List (List ℕ) → MockCall → ℕ → Extra → List (List ℕ) → O → Type 0)
-    (learns : O → List (List ℕ) → O → Type 0)
-    (script : Script) (old_texts texts : List (List ℕ)) (view old : KeptDomain) (g : ℕ) (ready : List ℕ) (told : Told) (mid : KeptDomain) (line : Line) (new : KeptDomain) (before behind : O)
-    → HasFirstForms script → view ≡ old → (pop view.ready).fiber ≡ Some g → ready ≡ (pop view.ready).others
-    → ((l : DomainState) → StandsFor script old_texts (with_head g (record view { ready = ready })) l → MovesOwn script texts l told mid)
-    → SameCounts (record view { ready = ready }) mid → texts ≡ old_texts → view.halted ≡ false → view.lines < view.budget → receives before None behind
-    → line ≡ record { stamp = mid.stamp + 1; domain = mid.number; fiber = told.fiber; did = told.did; reply = told.reply }
-    → new ≡ record mid { stamp = mid.stamp + 1; lines = mid.lines + 1 }
-    → turns.Turns calls strikes receives extras learns script (Moved line) old_texts texts old new before behind
-made_turn calls strikes receives extras learns script old_texts texts view old g ready told mid line new before behind built is first others moves same table runs few found line_is new_is =
-    subst (λ (k : KeptDomain). turns.Turns calls strikes receives extras learns script (Moved line) old_texts texts k new before behind) is
-    (subst (λ (it : Line). turns.Turns calls strikes receives extras learns script (Moved it) old_texts texts view new before behind) (sym line_is)
-    (subst (λ (k : KeptDomain). turns.Turns calls strikes receives extras learns script (Moved (record { stamp = mid.stamp + 1; domain = mid.number; fiber = told.fiber; did = told.did; reply = told.reply })) old_texts texts view k before behind)
-    (sym new_is)
-    (turned calls strikes receives extras learns script built old_texts texts view g ready (one_popped view.ready g first ∙ ap (λ (xs : List ℕ). g ∷ xs) (sym others)) told mid moves same runs before behind found few table)))
+  -- the same of the line and the domain that were made of it
+  pub made_turn : (made : Line) (kept : KeptDomain) → old.lines < old.budget → texts ≡ old_texts
+      → made ≡ record { stamp = mid.stamp + 1; domain = mid.number; fiber = told.fiber; did = told.did; reply = told.reply }
+      → kept ≡ record mid { stamp = mid.stamp + 1; lines = mid.lines + 1 }
+      → turns.Turns calls strikes receives extras learns script (Moved made) old_texts texts old kept before behind
+  made_turn made kept few table line_as new_as =
+      subst (λ (ln : Line). turns.Turns calls strikes receives extras learns script (Moved ln) old_texts texts old kept before behind) (sym line_as)
+      (subst (λ (k : KeptDomain). turns.Turns calls strikes receives extras learns script (Moved line) old_texts texts old k before behind) (sym new_as) (turned few table))

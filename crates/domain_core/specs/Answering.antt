@@ -1,50 +1,46 @@
 -- What the methods of a domain do, whatever domain of the definitions is stood for.
-use Rattle.std.specs.Prelude.{◌≡◌, ◌≢◌, ℕ, ◌<◌, true, false, List, [], length, IsSome, Some, None}
-use Rattle.cancel_tree.specs.Endings.{HasNoLiveChild}
-use Rattle.cancel_tree.specs.Waits.{waits_in}
-use Rattle.eio_value.specs.declared.raised.Outcome.{Outcome}
+use Rattle.std.specs.Prelude.{◌≡◌, ℕ, ◌+◌, Bool, true, false, List, [], ◌∷◌, ◌++◌, length, map, None}
+use Rattle.eio_value.specs.declared.plain.Member.{Member}
+use Rattle.eio_value.specs.declared.plain.Plain.{Plain}
 use Rattle.eio_value.specs.declared.raised.Outcome.TheVariants as outcome
-use Rattle.row_model.specs.Contexts.{is_live, off}
-use Rattle.row_model.specs.Switches.{Switch, switch_at, attach, due_batch}
-use Rattle.switch_core.specs.Attaching.{IsAttached}
-use Rattle.script_lang.specs.Standing.{block_at}
-use Rattle.step_model.specs.Replies.{begun}
-use Rattle.script_lang.specs.Flat.{nodes_of}
-use Rattle.script_lang.specs.declared.node.Node.{Node}
-use Rattle.script_model.specs.Scripts.{Script}
+use Rattle.eio_value.specs.declared.value.Value.{Value}
+use Rattle.eio_value.specs.declared.value.Value.TheVariants as value
 use Rattle.fiber_step.specs.declared.ask.Ask.{Ask}
 use Rattle.fiber_step.specs.Standing.{ask_of}
-use Rattle.machine_model.specs.Domain.{DomainState, OfSwitch, fiber_at, made}
+use Rattle.machine_model.specs.ContextMoves.{before_block}
+use Rattle.machine_model.specs.Domain.{OfSwitch, DomainState, GoesOn, fiber_at, made, moved_to, placed, to_head}
+use Rattle.machine_model.specs.GroupMoves.{branched, numbers_from}
 use Rattle.machine_model.specs.Moves.{own_call}
-use Rattle.machine_model.specs.Steps.{Step}
-use Rattle.machine_model.specs.SwitchMoves.{with_switch_at}
-use Rattle.domain_core.specs.declared.fiber.Fiber.{Fiber}
-use Rattle.domain_core.specs.declared.standing.Role.{Role}
-use Rattle.domain_core.specs.declared.standing.Role.TheVariants as role
+use Rattle.machine_model.specs.Steps.{Step, counted, member}
+use Rattle.machine_model.specs.SwitchMoves.{closed_by, with_switch_at}
+use Rattle.row_model.specs.Groups.{GroupKind, gathered}
+use Rattle.row_model.specs.Switches.{Switch, Closed, attach, close_step, switch_at}
+use Rattle.script_lang.specs.Flat.{nodes_of}
+use Rattle.script_lang.specs.Standing.{block_at}
+use Rattle.script_lang.specs.declared.node.Forking.{Forking}
+use Rattle.script_lang.specs.declared.node.Forking.TheVariants as forking
+use Rattle.script_lang.specs.declared.node.Node.{Node}
+use Rattle.script_model.specs.Scripts.{Script}
+use Rattle.step_model.specs.Asks as asks
+use Rattle.step_model.specs.Asks.{Ask as Called}
+use Rattle.step_model.specs.Replies.{begun}
 use Rattle.domain_core.specs.declared.told.Told.{Told}
-use Rattle.domain_core.specs.Keeping.{KeptDomain, kept_at}
+use Rattle.domain_core.specs.Keeping.{KeptDomain}
 use Rattle.domain_core.specs.Mirrors.{Mirrors}
 
--- the fiber hasn't ended
-abbrev pub Lives : KeptDomain → (fiber : ℕ) → Type 0
-Lives kept g = IsSome (kept_at kept.fibers g)
+-- ## Parts of a move
 
--- whatever is stood for becomes this
+-- whatever is stood for becomes this, under these nodes
+abbrev pub BecomesUnder : List Node → (DomainState → DomainState) → (old new : KeptDomain) → Type 0
+BecomesUnder nodes change old new = (texts : List (List ℕ)) (l : DomainState) → Mirrors nodes texts old l → Mirrors nodes texts new (change l)
+
+-- and under any
 abbrev pub Becomes : (DomainState → DomainState) → (old new : KeptDomain) → Type 0
-Becomes change old new = (nodes : List Node) (texts : List (List ℕ)) (l : DomainState) → Mirrors nodes texts old l → Mirrors nodes texts new (change l)
+Becomes change old new = (nodes : List Node) → BecomesUnder nodes change old new
 
--- a move of the definitions tells this, and raises nothing
-pub record Tells (step : Step) (told : Told) : Type 0 where
-  pub fiber : step.fiber ≡ told.fiber
-  pub did : step.did ≡ told.did
-  pub reply : step.reply ≡ told.reply
-  pub raises : step.raises ≡ []
-
--- this call of a fiber was answered so, whatever is stood for
-pub record Answers (script : Script) (call : Ask) (g : ℕ) (old : KeptDomain) (told : Told) (new : KeptDomain) : Type 0 where
-  pub tells : (texts : List (List ℕ)) (l : DomainState) → Mirrors (nodes_of script) texts old l → Tells (own_call script (ask_of (nodes_of script) call) g l) told
-  pub becomes : (texts : List (List ℕ)) (l : DomainState) → Mirrors (nodes_of script) texts old l
-      → Mirrors (nodes_of script) texts new (own_call script (ask_of (nodes_of script) call) g l).state
+-- this is so of whatever is stood for
+abbrev pub HoldsOf : KeptDomain → (DomainState → Type 0) → Type 0
+HoldsOf kept Fact = (nodes : List Node) (texts : List (List ℕ)) (l : DomainState) → Mirrors nodes texts kept l → Fact l
 
 -- the domain is of the same number, and has made as many lines of as many as it may, the last one with the same stamp
 pub record SameCounts (old new : KeptDomain) : Type 0 where
@@ -54,57 +50,73 @@ pub record SameCounts (old new : KeptDomain) : Type 0 where
   pub budget : new.budget ≡ old.budget
   pub mocked : new.mocked ≡ old.mocked
 
--- the same under these nodes
-abbrev pub BecomesUnder : List Node → (DomainState → DomainState) → (old new : KeptDomain) → Type 0
-BecomesUnder nodes change old new = (texts : List (List ℕ)) (l : DomainState) → Mirrors nodes texts old l → Mirrors nodes texts new (change l)
+-- no fiber stands otherwise, and none has come to the ready list or left it
+pub record SameFibers (old new : KeptDomain) : Type 0 where
+  pub fibers : new.fibers ≡ old.fibers
+  pub ready : new.ready ≡ old.ready
 
--- ## What the calls on contexts and switches ask, in the words of what is kept
+-- the fiber goes into the block of its call, which was answered with this number, in this context
+abbrev pub enters_block : Called → (number context fiber : ℕ) → DomainState → DomainState
+enters_block call number context g l = to_head (GoesOn (outcome.Ok value.Unit)) g (placed (before_block call number g l) g (moved_to context g l))
 
--- the fiber's context is live, and isn't off
-abbrev pub IsOn : KeptDomain → (fiber : ℕ) → Type 0
-IsOn kept g = (fiber : Fiber) → kept_at kept.fibers g ≡ Some fiber → (is_live kept.contexts.made fiber.context ≡ true) × (off kept.contexts.made fiber.context ≡ None)
+-- ## Moves
 
--- the context of each switch that hasn't finished is live
-abbrev pub HasLiveContexts : KeptDomain → Type 0
-HasLiveContexts kept = (n : ℕ) → n < length kept.switches → (switch_at kept.switches n).finished ≡ false
-    → is_live kept.contexts.made (switch_at kept.switches n).context ≡ true
+-- a move of the definitions tells this
+pub record Tells (step : Step) (told : Told) : Type 0 where
+  pub fiber : step.fiber ≡ told.fiber
+  pub did : step.did ≡ told.did
+  pub reply : step.reply ≡ told.reply
 
--- no switch has this fiber
-abbrev pub IsAttachedToNone : KeptDomain → (fiber : ℕ) → Type 0
-IsAttachedToNone kept g = (n : ℕ) → ¬ IsAttached g (switch_at kept.switches n)
+-- whatever is stood for makes this step, under these nodes
+pub record MakesUnder (nodes : List Node) (step : DomainState → Step) (old : KeptDomain) (told : Told) (new : KeptDomain) : Type 0 where
+  pub tells : (texts : List (List ℕ)) (l : DomainState) → Mirrors nodes texts old l → Tells (step l) told
+  pub becomes : BecomesUnder nodes (λ l. (step l).state) old new
 
--- the context may end
-pub record MayEndContext (kept : KeptDomain) (context : ℕ) : Type 0 where
-  pub live : is_live kept.contexts.made context ≡ true
-  pub childless : HasNoLiveChild kept.contexts.made context
-  pub idle : waits_in context kept.contexts.waiting ≡ false
+-- and under any
+abbrev pub Makes : (DomainState → Step) → (old : KeptDomain) → Told → (new : KeptDomain) → Type 0
+Makes step old told new = (nodes : List Node) → MakesUnder nodes step old told new
 
--- a switch that the fiber may close: it has neither daemons nor handlers nor errors, and its context may end once nobody is attached
-pub record MayClose (kept : KeptDomain) (switch : ℕ) : Type 0 where
-  pub opened : switch < length kept.switches
-  pub unfinished : (switch_at kept.switches switch).finished ≡ false
-  pub daemons : (switch_at kept.switches switch).daemons ≡ []
-  pub handlers : due_batch (switch_at kept.switches switch) ≡ []
-  pub errors : (switch_at kept.switches switch).errors ≡ None
-  pub ends : (switch_at kept.switches switch).fibers ≡ [] → MayEndContext kept (switch_at kept.switches switch).context
+-- this call of a fiber was answered so
+abbrev pub Answers : Script → (call : Ask) → (fiber : ℕ) → (old : KeptDomain) → Told → (new : KeptDomain) → Type 0
+Answers script call g old told new = MakesUnder (nodes_of script) (own_call script (ask_of (nodes_of script) call) g) old told new
 
--- a fiber came to a value
-abbrev pub IsGiven : Outcome → Type 0
-IsGiven (outcome.Ok given) = Unit {0}
-IsGiven (outcome.Err raised) = ⊥
+-- a new raise of this exception was counted
+pub record Raises (what : Plain) (made : Member) (old new : KeptDomain) : Type 0 where
+  pub is : HoldsOf old (λ l. made ≡ member what l)
+  pub becomes : Becomes counted old new
 
--- the end of a fiber: that of the body ends its context, that of another one takes it off its switch. The body is the first fiber
-abbrev pub MayEndAs : KeptDomain → (fiber context : ℕ) → Role → Type 0
-MayEndAs kept g context role.Body = (g ≡ 0) × MayEndContext kept context
-MayEndAs kept g context (role.Switched switch daemon) = (daemon ≡ false) × (switch < length kept.switches) × IsAttached g (switch_at kept.switches switch) × (g ≢ 0)
+-- ## Parts that are defined nowhere else by themselves
 
-abbrev pub MayEnd : KeptDomain → (fiber : ℕ) → Type 0
-MayEnd kept g = (fiber : Fiber) → kept_at kept.fibers g ≡ Some fiber → MayEndAs kept g fiber.context fiber.role
+-- how a fiber is forked that may be a daemon
+abbrev pub forking_by : (daemon : Bool) → Forking
+forking_by true = forking.Daemon
+forking_by false = forking.Plain
 
 -- a new fiber of a switch, with the caller's variables
-abbrev pub forks : (maker switch body : ℕ) → List Node → DomainState → DomainState
-forks g n body nodes l =
+abbrev pub forks : (maker switch : ℕ) → (daemon : Bool) → (body : ℕ) → List Node → DomainState → DomainState
+forks g n daemon body nodes l =
     let new = length l.fibers in
     let s : Switch = switch_at l.switches n in
-    let t : DomainState = made s.context (OfSwitch n false) (begun (block_at nodes body) (fiber_at l.fibers g).variables) l in
-    with_switch_at n (attach new false s).switch t
+    let t : DomainState = made s.context (OfSwitch n daemon) (begun (block_at nodes body) (fiber_at l.fibers g).variables) l in
+    with_switch_at n (attach new daemon s).switch t
+
+-- a handler is the last of the fresh batch, with the caller's variables
+abbrev pub registers : (fiber switch handler : ℕ) → DomainState → DomainState
+registers g n handler l =
+    let s : Switch = switch_at l.switches n in
+    with_switch_at n (record s { fresh = s.fresh ++ record { block = handler; values = (fiber_at l.fibers g).variables } ∷ [] }) l
+
+-- `close` once the switch has what came
+abbrev pub closes_on : Script → (switch : ℕ) → (kept : Value) → (fiber : ℕ) → DomainState → Step
+closes_on script n kept g l =
+    let closed : Closed = close_step g (switch_at l.switches n) in
+    closed_by script (asks.Close n None kept) n closed.switch.context kept closed.step g (with_switch_at n closed.switch l)
+
+-- a new group over this context, with a fiber for each of these blocks, with the caller's variables, and the caller's own branch beside them
+abbrev pub gathers : (maker : ℕ) → GroupKind → (context : ℕ) → (bodies : List ℕ) → List Node → DomainState → DomainState
+gathers g kind c bodies nodes l =
+    branched c (length l.groups) (fiber_at l.fibers g).variables (map (block_at nodes) bodies) (record l { groups = l.groups ++ gathered kind c (length bodies + 1) ∷ [] })
+
+-- so many fibers from this number on stand before all others
+abbrev pub heads_with : (first count : ℕ) → DomainState → DomainState
+heads_with first count l = record l { ready = numbers_from first count ++ l.ready }

@@ -1,11 +1,10 @@
 pub mod Keyed
 pub mod Keeping
+pub mod KeptCode
 pub mod Mirrors
-pub mod FirstForms
-pub mod FirstStates
 pub mod Turns
 pub mod Objects
 pub mod Answering
+pub mod Conditions
 pub mod Stepping
 pub mod Moving
-pub mod FirstLaws

@@ -1,7 +1,6 @@
 -- What a turn of a domain does: which calls it made on the objects, in order, what was answered, and what the domain is then.
 -- The objects are of any type; what a call does to them stands in the relations of that type, which are the arguments of this module.
-use Rattle.std.specs.Prelude.{◌≡◌, ◌⊎◌, ℕ, ◌+◌, ◌<◌, Bool, true, false, List, [], ◌∷◌, slice_get, Option, Some, None}
-use Rattle.std.specs.Option.{unwrap_or}
+use Rattle.std.specs.Prelude.{◌≡◌, ◌⊎◌, ℕ, ◌+◌, ◌<◌, Bool, true, false, List, [], ◌∷◌, Option, Some, None}
 use Rattle.eio_value.specs.declared.call.Answered.{Answered}
 use Rattle.eio_value.specs.declared.call.Call.{Call}
 use Rattle.eio_value.specs.declared.call.Struck.{Struck}
@@ -14,7 +13,6 @@ use Rattle.eio_value.specs.Waits.{struck_stamp}
 use Rattle.script_lang.specs.Flat.{nodes_of}
 use Rattle.script_model.specs.Opening.{opening_texts}
 use Rattle.script_model.specs.Scripts.{Script}
-use Rattle.script_model.specs.Syntax.{Block, Begins as BeginsAt, Done}
 use Rattle.trace_out.specs.declared.line.Line.{Line}
 use Rattle.machine_model.specs.Domain.{Duty, DomainState}
 use Rattle.machine_model.specs.Labels.{Label, Inner, Called, Struck as WasStruck, Mocked, Took, Idle as AsksNothing}
@@ -24,7 +22,8 @@ use Rattle.machine_model.specs.Preparing.{prepared}
 use Rattle.machine_model.specs.Runs.{DomainMoves, message_stamp}
 use Rattle.domain_core.specs.declared.turn.Turn.{Turn}
 use Rattle.domain_core.specs.declared.turn.Turn.TheVariants.{Moved, Idle, Spent, Halted}
-use Rattle.domain_core.specs.FirstStates.{IsFirstState}
+use Rattle.domain_laws.specs.Laws.{body_of}
+use Rattle.well_laws.specs.WellStates.{StandsWell}
 use Rattle.fiber_step.specs.Throwing.{IsGrown}
 use Rattle.domain_core.specs.Keeping.{KeptDomain}
 use Rattle.domain_core.specs.Mirrors.{Mirrors}
@@ -32,15 +31,12 @@ use Rattle.domain_core.specs.Mirrors.{Mirrors}
 -- what is kept stands for this domain of the definitions, between two moves
 pub record StandsFor (script : Script) (texts : List (List ℕ)) (kept : KeptDomain) (l : DomainState) : Type 0 where
   pub mirrors : Mirrors (nodes_of script) texts kept l
-  pub first : IsFirstState l
+  -- a domain that is halted moves no more, and nothing else is known of it
+  pub well : l.halted ≡ false → StandsWell script l
 
 -- it stands for some domain
 abbrev pub StandsForSome : Script → (texts : List (List ℕ)) → KeptDomain → Type 0
 StandsForSome script texts kept = (l : DomainState) × StandsFor script texts kept l
-
--- the block of a body
-abbrev pub body_of : Script → (number : ℕ) → Block
-body_of script number = unwrap_or (slice_get script.bodies number) (BeginsAt 0 Done)
 
 -- what is kept of a domain that has just started
 pub record Starts (script : Script) (body most : ℕ) (is_mocked : Bool) (kept : KeptDomain) : Type 0 where

@@ -1,15 +1,14 @@
-//! A domain: its fibers, its ready list, its contexts and its switches.
+//! A domain: its fibers, its ready list and the strikes that it owes, its contexts, switches and groups.
 //!
 //! Contracts see what is kept of it (`KeptDomain`), which stands for a domain of the definitions (`StandsFor`). The theorem on a
 //! turn is the contract of [`Domain::turn`].
 
-ghost use Rattle.std.specs.Prelude.{◌≡◌, ◌<◌, ◌≤◌, ℕ, List, IfOk, length};
+ghost use Rattle.std.specs.Prelude.{◌≡◌, ◌<◌, ◌≤◌, ℕ, List, [], IfOk, length};
 ghost use Rattle.machine_model.specs.Mock as mock;
 ghost use Rattle.machine_model.specs.Trace as trace;
 ghost use Rattle.machine_model.specs.Domain.{DomainState};
 ghost use Rattle.script_lang.specs.declared.node.Node.{Node};
-ghost use Rattle.script_laws.specs.FirstForms.{HasFirstForms};
-ghost use Rattle.domain_core.specs.FirstStates.{IsFirstState};
+ghost use Rattle.well_laws.specs.WellStates.{IsRunnable};
 ghost use Rattle.domain_core.specs.Mirrors.{Mirrors};
 ghost use Rattle.domain_core.specs.Turns.{Starts};
 
@@ -18,10 +17,12 @@ use crate::standing::Role;
 use cancel_tree::Contexts;
 use eio_value::{NoMemory, Outcome};
 use fiber_step::{Fiber as Frames, Variables, first_node};
+use group_core::Groups;
 use run_queue::Ready;
 use script_lang::Script;
 use std::alloc::Global;
 use std::marker::Model;
+use strike_queue::Strikes;
 use switch_core::Switches;
 
 /// One domain of fibers.
@@ -33,8 +34,10 @@ pub struct Domain {
     /// What the body came to, once it has ended.
     pub(crate) came: Option<Outcome>,
     pub(crate) ready: Ready,
+    pub(crate) owed: Strikes,
     pub(crate) contexts: Contexts,
     pub(crate) switches: Switches,
+    pub(crate) groups: Groups,
     /// The number of the next raise.
     pub(crate) serial: u64,
     /// That of the last line.
@@ -50,17 +53,22 @@ pub struct Domain {
 
 impl Model for Domain {
     ghost use Rattle.std.specs.Prelude.{◌≡◌, ◌≤◌};
+    ghost use Rattle.domain_core.specs.KeptCode.{domain_code};
     ghost use Rattle.domain_core.specs.Keeping.{KeptDomain};
 
     ghost Value = { KeptDomain };
+
+    ghost coded = { domain_code };
 
     ghost view = { λ d. record {
       number = d.number;
       fibers = d.fibers;
       came = d.came;
       ready = d.ready.fibers;
+      owed = d.owed;
       contexts = d.contexts;
       switches = d.switches;
+      groups = d.groups;
       serial = d.serial;
       stamp = d.stamp;
       lines = d.lines;
@@ -88,7 +96,7 @@ impl Domain {
         requires body { body < length script.now.bodies }
         requires some { 0 < budget }
         requires most { budget ≤ 1000000 }
-        requires built { HasFirstForms script.now }
+        requires runnable { IsRunnable script.now }
         ensures { IfOk result (Starts script.now body budget mocked) }
     {
         let mut fibers = Fibers::new(alloc)?;
@@ -112,8 +120,10 @@ impl Domain {
             fibers,
             came: None,
             ready,
+            owed: Strikes::new(alloc)?,
             contexts,
             switches: Switches::new(alloc),
+            groups: Groups::new(alloc),
             serial: (body as u64) << 56,
             stamp: 0,
             lines: 0,
@@ -123,11 +133,11 @@ impl Domain {
         })
     }
 
-    /// Whether something is left to be done, a message aside: no limit was met, and a fiber can move.
+    /// Whether something is left to be done, a message aside: no limit was met, and a strike is owed or a fiber can move.
     pub fn can_move(&self) -> bool
-        ensures { (nodes : List Node) (texts : List (List ℕ)) (l : DomainState) → Mirrors nodes texts self.now l → IsFirstState l → result ≡ mock.can_move l }
+        ensures { (nodes : List Node) (texts : List (List ℕ)) (l : DomainState) → Mirrors nodes texts self.now l → l.timers.standing ≡ [] → result ≡ mock.can_move l }
     {
-        !self.halted && !self.ready.is_empty()
+        !self.halted && !(self.owed.is_empty() && self.ready.is_empty())
     }
 
     /// What the body came to, if it has ended.

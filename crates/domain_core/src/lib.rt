@@ -5,15 +5,24 @@
 //! [`Domain::turn`] is one of its moves (`DomainMoves` of `machine_model`), with the calls on the objects by which it came, in order, and
 //! their answers (`Turns`). Fibers and contexts that have ended are forgotten.
 //!
-//! Built are the first forms (`HasFirstForms` of `script_laws`). What holds between two moves of such a script is `IsFirstState` (specs/FirstStates), and that
-//! each move keeps it is a law of the definitions (specs/FirstLaws).
+//! Built are the forms of exceptions, cancellation, switches and groups (`HasBuiltForms` of `domain_laws`). What holds between two moves of such a
+//! script is `StandsWell` of `well_laws`, which is a law of the definitions; the calls of fibers rest on what follows from it
+//! (`specs/Conditions`).
 #![tactic(auto)]
 
+mod answers;
 mod calls;
+mod closing;
+mod context_calls;
 mod domain;
+mod ending;
 mod fiber;
 mod fibers;
+mod group_calls;
+mod parts;
 mod standing;
+mod strikes;
+mod switch_calls;
 mod told;
 mod turn;
 

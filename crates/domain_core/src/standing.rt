@@ -9,29 +9,39 @@ pub enum Role {
     Body,
     /// A fiber of this switch.
     Switched { switch: u32, daemon: bool },
+    /// A branch of this group.
+    Branch { group: u32 },
 }
 
-/// A `close` that is made again: of this switch, whose body came to this value.
+/// A call that is made again once the fibers that it waits for have ended.
 #[derive(Clone, Copy)]
-pub struct Closing {
-    pub switch: u32,
-    pub kept: Value,
+pub enum Again {
+    /// `close` of this switch, whose body came to this value.
+    Close { switch: u32, kept: Value },
+    /// The end of a form with branches.
+    Join { group: u32 },
 }
 
-/// How a fiber goes on with its next move.
+/// How a fiber goes on with its next move, to which no exception came.
 #[derive(Clone, Copy)]
 pub enum Next {
     /// With the value that its call was answered.
     GoesOn(Value),
     /// After a `yield`, by looking whether it was cancelled.
     LooksUp,
-    ClosesAgain(Closing),
+    /// By raising that its context is off, in which its call would have waited.
+    FindsOff,
+    CallsAgain(Again),
 }
 
 /// How a fiber stands that hasn't ended.
 #[derive(Clone, Copy)]
 pub enum Standing {
     Ready(Next),
-    /// It waits in `close`, which it calls again once the fibers of the switch have ended.
-    Parked(Closing),
+    /// It goes on with an exception, which is kept under this key.
+    Throws(usize),
+    /// It waits for other fibers.
+    Parked(Again),
+    /// It waits to be cancelled.
+    AwaitsCancel,
 }

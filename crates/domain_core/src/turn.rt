@@ -1,25 +1,28 @@
-//! A turn of a domain: the first obligation, else a message, else the head of the ready list.
+//! A turn of a domain: the first strike that it owes, else a message, else the head of the ready list.
 //!
-//! No form that is built owes anything, so that an obligation never comes; and none waits on an object or submits a job, so that no
-//! message does. The theorem is the contract of [`Domain::turn`].
+//! No form that is built waits on an object or submits a job, so that no message comes. The theorem is the contract of
+//! [`Domain::turn`].
 
-ghost use Rattle.std.specs.Prelude.{◌≡◌, ◌<◌, ◌+◌, ◌≤◌, ◌-◌, ◌^◌, length, IfOk, OnOk};
-ghost use Rattle.script_laws.specs.Soundness.{IsSound};
-ghost use Rattle.script_laws.specs.FirstForms.{HasFirstForms};
+ghost use Rattle.std.specs.Prelude.{◌≡◌, ◌≢◌, ◌<◌, ◌+◌, ◌≤◌, ◌-◌, ◌^◌, List, [], false, length, IfOk, OnOk, IfSome, IfNone};
+ghost use Rattle.fiber_step.specs.Standing.{ask_of};
 ghost use Rattle.fiber_step.specs.Stepping.{HasBodiesOf};
-ghost use Rattle.script_lang.specs.Flat.{nodes_of};
 ghost use Rattle.machine_model.specs.Domain.{DomainState};
-ghost use Rattle.domain_core.specs.Answering.{SameCounts};
-ghost use Rattle.domain_core.specs.Moving.{with_head, ComesTo, MovesOwn};
+ghost use Rattle.script_lang.specs.Flat.{nodes_of};
+ghost use Rattle.script_lang.specs.declared.node.Node.{Node};
+ghost use Rattle.well_laws.specs.WellStates.{IsRunnable};
+ghost use Rattle.domain_core.specs.Answering.{Answers, SameCounts};
+ghost use Rattle.domain_core.specs.Conditions.{RunsInLive};
+ghost use Rattle.domain_core.specs.Keyed.{call_of};
+ghost use Rattle.domain_core.specs.Moving.{with_head, ComesTo, GoesOnWith, IsOfScope, IsReady, MayAnswer, MovesOwn};
 ghost use Rattle.domain_core.specs.Objects.{AreFor};
 ghost use Rattle.domain_core.specs.Turns.{StandsFor, StandsForSome, Turns};
 
 use crate::domain::Domain;
-use crate::standing::{Closing, Next, Standing};
+use crate::standing::{Again, Next, Standing};
 use crate::told::Told;
-use eio_value::{Extras, NoMemory, Outcome, Texts, Value};
+use eio_value::{Extras, NoMemory, Outcome, Plain, Raised, Texts, Value};
 use fiber_step::Ask;
-use script_lang::Script;
+use script_lang::{Forking, Script};
 use trace_out::Line;
 
 /// What a turn of a domain came to.
@@ -48,8 +51,7 @@ impl Domain {
         texts: &mut Texts,
         objects: &mut O,
     ) -> Result<Turn, NoMemory>
-        requires built { HasFirstForms script.now }
-        requires sound { IsSound script.now }
+        requires runnable { IsRunnable script.now }
         requires stands { StandsForSome script.now texts.old self.old }
         requires objects { AreFor self.old (O.is_mocked objects.old) (O.terms objects.old) (O.seen objects.old) (O.is_open objects.old) }
         requires early { self.old.stamp < 2 ^ 60 - 4 }
@@ -64,6 +66,11 @@ impl Domain {
         if self.lines >= self.budget {
             return Ok(Turn::Spent);
         }
+        if let Some(strike) = self.owed.pop() {
+            let mut told = Told::nothing(strike.fiber);
+            self.strike(strike, &mut told)?;
+            return Ok(Turn::Moved(self.next_line(&told)));
+        }
         if objects.receive().is_some() {
             unreachable!()
         }
@@ -72,14 +79,7 @@ impl Domain {
         };
         let mut told = Told::nothing(fiber);
         self.move_of(script, texts, fiber, &mut told)?;
-        self.count_line();
-        Ok(Turn::Moved(Line {
-            stamp: self.stamp,
-            domain: self.number,
-            fiber: told.fiber,
-            did: told.did,
-            reply: told.reply,
-        }))
+        Ok(Turn::Moved(self.next_line(&told)))
     }
 
     /// The move of the fiber that stood first in the ready list: its silent statements, and its next call.
@@ -90,15 +90,36 @@ impl Domain {
         fiber: u32,
         told: &mut Told,
     ) -> Result<(), NoMemory>
+        requires runnable { IsRunnable script.now }
         requires stands { StandsForSome script.now texts.old (with_head fiber self.old) }
+        requires owes { self.old.owed ≡ [] }
+        requires going { self.old.halted ≡ false }
         requires texts { length script.now.texts ≤ length texts.old }
         requires few { self.old.lines < 1000000 }
         ensures moves { OnOk result ((l : DomainState) → StandsFor script.now texts.old (with_head fiber self.old) l → MovesOwn script.now texts.new l told.new self.new) }
         ensures same { OnOk result (SameCounts self.old self.new) }
         ensures texts { OnOk result (texts.new ≡ texts.old) }
     {
-        let ask = self.next_call(script, texts, fiber)?;
-        match ask {
+        match self.next_call(script, texts, fiber) {
+            Ok(ask) => self.answer(script, fiber, &ask, told),
+            Err(error) => Err(error),
+        }
+    }
+
+    /// The call of a fiber is answered.
+    fn answer(
+        &mut self,
+        script: &Script,
+        fiber: u32,
+        ask: &Ask,
+        told: &mut Told,
+    ) -> Result<(), NoMemory>
+        requires calls { MayAnswer script.now fiber ask.now self.old }
+        requires bodies { HasBodiesOf (nodes_of script.now) ask.now }
+        ensures answers { OnOk result (Answers script.now ask.now fiber self.old told.new self.new) }
+        ensures same { OnOk result (SameCounts self.old self.new) }
+    {
+        match *ask {
             Ask::Trace(operands) => {
                 self.trace(fiber, operands, told);
                 Ok(())
@@ -107,52 +128,166 @@ impl Domain {
                 self.give_way(fiber, told);
                 Ok(())
             }
-            Ask::Switch { body } => self.open_switch(script, fiber, body, told),
-            Ask::Fork { switch, body, .. } => self.fork(fiber, switch, body, told),
-            Ask::Close { switch, kept, .. } => {
-                self.close(fiber, Closing { switch, kept }, told);
+            Ask::Check => self.check(fiber, told),
+            Ask::AwaitCancel => {
+                self.await_cancel(fiber, told);
+                Ok(())
+            }
+            Ask::Turn => {
+                self.turn_begins(fiber, told);
                 Ok(())
             }
             Ask::End(outcome) => {
-                self.end(fiber, outcome, told);
+                self.end(fiber, &outcome, told);
                 Ok(())
             }
+            _ => self.answer_scope(script, fiber, ask, told),
+        }
+    }
+
+    /// The same for calls on contexts, switches and groups.
+    fn answer_scope(
+        &mut self,
+        script: &Script,
+        fiber: u32,
+        ask: &Ask,
+        told: &mut Told,
+    ) -> Result<(), NoMemory>
+        requires calls { MayAnswer script.now fiber ask.now self.old }
+        requires scope { IsOfScope ask.now }
+        requires bodies { HasBodiesOf (nodes_of script.now) ask.now }
+        ensures answers { OnOk result (Answers script.now ask.now fiber self.old told.new self.new) }
+        ensures same { OnOk result (SameCounts self.old self.new) }
+    {
+        match *ask {
+            Ask::Sub { body } => self.sub(script, fiber, body, told),
+            Ask::Protect { body } => self.protect(script, fiber, body, told),
+            Ask::Leave {
+                context,
+                late,
+                outcome,
+            } => self.leave(fiber, context, late, outcome, told),
+            Ask::Cancel { context, text } => self.cancel(fiber, context, text, told),
+            Ask::Switch { body } => self.open_switch(script, fiber, body, told),
+            Ask::Fork {
+                forking,
+                switch,
+                body,
+            } => {
+                let daemon = matches!(forking, Forking::Daemon);
+                self.fork(fiber, daemon, switch, body, told)
+            }
+            Ask::Fail { switch, text } => self.fail(fiber, switch, text, told),
+            Ask::OnRelease { switch, handler } => {
+                self.on_release(script, fiber, switch, handler, told)
+            }
+            Ask::Close {
+                switch,
+                failed,
+                kept,
+            } => self.close(script, fiber, switch, failed, kept, told),
+            Ask::Branches { group, form } => self.branches(script, fiber, group, form, told),
+            Ask::Join { group, own } => self.join(fiber, group, own, told),
             _ => unreachable!(),
         }
     }
 
     /// The next call of a fiber, before which it has run its silent statements.
+    ///
+    /// # Errors
+    /// [`NoMemory`] where memory runs out; the domain isn't used again then.
     fn next_call(&mut self, script: &Script, texts: &mut Texts, fiber: u32) -> Result<Ask, NoMemory>
+        requires runnable { IsRunnable script.now }
         requires stands { StandsForSome script.now texts.old (with_head fiber self.old) }
+        requires owes { self.old.owed ≡ [] }
+        requires going { self.old.halted ≡ false }
         requires texts { length script.now.texts ≤ length texts.old }
         ensures calls { IfOk result (λ call. (l : DomainState) → StandsFor script.now texts.old (with_head fiber self.old) l → ComesTo script.now texts.new l fiber call self.new) }
         ensures bodies { IfOk result (λ call. HasBodiesOf (nodes_of script.now) call) }
         ensures same { OnOk result (SameCounts self.old self.new) }
     {
-        let Standing::Ready(next) = self.fibers.at(fiber).standing else {
-            unreachable!()
-        };
-        let came = match next {
-            Next::GoesOn(value) => value,
-            Next::LooksUp => Value::Unit,
-            Next::ClosesAgain(closing) => {
-                return Ok(Ask::Close {
-                    switch: closing.switch,
-                    failed: None,
-                    kept: closing.kept,
-                });
-            }
-        };
+        if let Some(again) = called_again(self.fibers.at(fiber).standing) {
+            return Ok(made_again(again));
+        }
+        let came = self.came_to(fiber)?;
         self.fibers
-            .settle(fiber, script, texts, &mut self.serial, &Outcome::Ok(came))
+            .settle(fiber, script, texts, &mut self.serial, &came)
     }
-    /// One more line was made, with the next stamp.
-    fn count_line(&mut self)
+
+    /// What a fiber goes on with that doesn't make its call again: where it finds its context off, a new raise of that.
+    ///
+    /// # Errors
+    /// [`NoMemory`] where there are no more numbers for raises.
+    fn came_to(&mut self, fiber: u32) -> Result<Outcome, NoMemory>
+        requires ready { IsReady self.old fiber }
+        requires live { RunsInLive self.old fiber }
+        ensures came { IfOk result (λ came. GoesOnWith fiber came self.old self.new) }
+        ensures kept { OnOk result (self.new ≡ record self.old { serial = self.new.serial }) }
+    {
+        let found = self.fibers.at(fiber);
+        let (standing, context) = (found.standing, found.context);
+        match standing {
+            Standing::Ready(Next::GoesOn(value)) => Ok(Outcome::Ok(value)),
+            Standing::Ready(Next::LooksUp) => match self.contexts.is_off(context) {
+                Some(why) => Ok(Outcome::Err(Raised::Cancelled(self.new_raise(why)?))),
+                None => Ok(Outcome::Ok(Value::Unit)),
+            },
+            Standing::Ready(Next::FindsOff) => {
+                let why = self.contexts.is_off(context).unwrap_or(Plain::Exit);
+                Ok(Outcome::Err(Raised::Cancelled(self.new_raise(why)?)))
+            }
+            Standing::Throws(_) => match self.fibers.thrown(fiber) {
+                Some(raised) => Ok(Outcome::Err(*raised)),
+                None => unreachable!(),
+            },
+            _ => unreachable!(),
+        }
+    }
+
+    /// One more line was made, with the next stamp: this one.
+    fn next_line(&mut self, told: &Told) -> Line
         requires early { self.old.stamp < 2 ^ 60 }
         requires few { self.old.lines < self.old.budget }
-        ensures { self.new ≡ record self.old { stamp = self.old.stamp + 1; lines = self.old.lines + 1 } }
+        ensures line { result ≡ record { stamp = self.old.stamp + 1; domain = self.old.number; fiber = told.now.fiber; did = told.now.did; reply = told.now.reply } }
+        ensures counts { self.new ≡ record self.old { stamp = self.old.stamp + 1; lines = self.old.lines + 1 } }
     {
         self.stamp += 1;
         self.lines += 1;
+        Line {
+            stamp: self.stamp,
+            domain: self.number,
+            fiber: told.fiber,
+            did: told.did,
+            reply: told.reply,
+        }
+    }
+}
+
+/// What a fiber makes again that stands so, if it does.
+fn called_again(standing: Standing) -> Option<Again>
+    ensures some { IfSome result (λ again. standing ≡ Standing.Ready (Next.CallsAgain again)) }
+    ensures none { IfNone result ((again : Again) → standing ≢ Standing.Ready (Next.CallsAgain again)) }
+{
+    match standing {
+        Standing::Ready(next) => match next {
+            Next::CallsAgain(again) => Some(again),
+            _ => None,
+        },
+        _ => None,
+    }
+}
+
+/// The call that is made again.
+fn made_again(again: Again) -> Ask
+    ensures call { (nodes : List Node) → ask_of nodes result ≡ call_of again }
+    ensures bodies { (nodes : List Node) → HasBodiesOf nodes result }
+{
+    match again {
+        Again::Close { switch, kept } => Ask::Close {
+            switch,
+            failed: None,
+            kept,
+        },
+        Again::Join { group } => Ask::Join { group, own: None },
     }
 }

@@ -1,13 +1,18 @@
-use Rattle.std.proofs.Common.{◌∙◌, ap, sym, subst, Some}
-use Rattle.machine_model.specs.Domain.{DomainState}
-use Rattle.domain_core.specs.Mirrors.{Mirrors}
-use Rattle.domain_core.proofs.Detaching.{left_mirrors, detached_woken}
+use Rattle.std.proofs.Common.{sym, subst}
+use Rattle.row_model.specs.Switches.{switch_at}
+use Rattle.machine_model.specs.SwitchMoves.{given_up}
+use Rattle.switch_core.specs.Attaching.{IsAttached}
+use Rattle.domain_core.specs.Answering.{BecomesUnder}
+use Rattle.domain_core.specs.Keeping.{KeptDomain}
+use Rattle.domain_core.proofs.Ends.{attached_still, detached_becomes}
 use Rattle.domain_core.proofs.domain.Domain.detach.Goals as goal
 
-pub returns-in-Some-Parked-clause-becomes : goal.returns-in-Some-Parked-clause-becomes
-returns-in-Some-Parked-clause-becomes c nodes texts l mirrors = (
-    let before = subst (λ kept. Mirrors nodes texts kept l) (sym c.self.view_is) mirrors in
-    let left = left_mirrors nodes texts _ l before c.args.switch c.args.fiber c.detach.new.self c.detach.ensures.switches in
-    subst (λ (k : DomainState). Mirrors nodes texts c.to_back.new.self k)
-    (sym (detached_woken nodes texts _ l before c.args.switch c.args.fiber c.in-Some.closer c.in-Some-Parked.closing (sym c.in-Some.is ∙ c.detach.ensures.woken) (ap (λ s. Some s) (sym c.in-Some-Parked.field-0-is) ∙ (sym c.in-Some-Parked.is ∙ c.standing.ensures))))
-    (c.to_back.ensures.becomes nodes texts _ left))
+pub detach-woken-requires-clause-attached : goal.detach-woken-requires-clause-attached
+detach-woken-requires-clause-attached c =
+    subst (λ (kept : KeptDomain). IsAttached c.args.fiber (switch_at kept.switches c.args.switch)) (sym c.self.view_is)
+    (attached_still c.args.fiber c.args.switch c.args.self.now c.give_up.new.self c.give_up.ensures.leaves c.requires.attached)
+
+pub returns-clause-becomes : goal.returns-clause-becomes
+returns-clause-becomes c = λ nodes. detached_becomes nodes c.args.switch c.args.fiber c.args.daemon c.args.outcome.now c.args.self.now _ c.detach-woken.new.self c.detach-woken.result c.wake.new.self
+    (subst (λ (kept : KeptDomain). BecomesUnder nodes (given_up c.args.fiber c.args.switch c.args.daemon c.args.outcome.now) c.args.self.now kept) (sym c.self.view_is) (c.give_up.ensures.becomes nodes))
+    c.detach-woken.ensures.woken c.detach-woken.ensures.switches (c.wake.ensures.becomes nodes)

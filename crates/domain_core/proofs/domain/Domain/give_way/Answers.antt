@@ -1,11 +1,12 @@
-use Rattle.std.proofs.Common.{refl}
+use Rattle.machine_model.specs.Domain.{LooksUp, to_back}
 use Rattle.machine_model.specs.Moves.{own_call}
 use Rattle.script_lang.specs.Flat.{nodes_of}
+use Rattle.trace_out.specs.declared.line.Did.TheVariants as did
+use Rattle.trace_out.specs.declared.line.Said2.TheVariants as said
+use Rattle.domain_core.proofs.Composing.{makes_told}
 use Rattle.domain_core.proofs.domain.Domain.give_way.Goals as goal
 
 pub returns-clause-answers : goal.returns-clause-answers
 unfolding own_call
-returns-clause-answers c script = record {
-  tells = λ texts l mirrors. record { fiber = refl; did = refl; reply = refl; raises = refl };
-  becomes = λ texts l mirrors. c.to_back.ensures.becomes (nodes_of script) texts l mirrors;
-}
+returns-clause-answers c script =
+    makes_told (nodes_of script) (to_back LooksUp c.args.fiber) c.args.fiber did.Yield said.Back _ _ (c.to_back.ensures.becomes (nodes_of script))

@@ -1,42 +1,51 @@
-use Rattle.std.proofs.Common.{inl, inr, ◌∙◌, ap, sym, subst}
-use Rattle.domain_core.specs.declared.fiber.Fiber.{Fiber}
-use Rattle.domain_core.specs.declared.standing.Next.TheVariants as next
-use Rattle.domain_core.specs.declared.standing.Standing.TheVariants as standing
-use Rattle.domain_core.proofs.Moving.{if_ok}
-use Rattle.std.proofs.lemmas.Option.{same_Some}
-use Rattle.domain_core.specs.Answering.{Lives}
-use Rattle.domain_core.specs.Keeping.{kept_at}
-use Rattle.domain_core.specs.Moving.{with_head}
-use Rattle.domain_core.specs.Turns.{StandsFor}
-use Rattle.domain_core.proofs.Preparing.{Brings, head_lives, head_ready, comes_again, comes_settled}
+use Rattle.std.proofs.Common.{◌∙◌, ap, sym, subst}
+use Rattle.std.specs.Prelude.{IsSome}
+use Rattle.std.proofs.lemmas.Result.{IfOk-weaker}
+use Rattle.script_lang.specs.Flat.{nodes_of}
+use Rattle.domain_core.specs.Keeping.{KeptDomain, kept_at}
+use Rattle.domain_core.specs.Keyed.{standing_of}
+use Rattle.domain_core.specs.Moving.{ComesTo}
+use Rattle.domain_core.specs.Stepping.{Settles}
+use Rattle.domain_core.proofs.Preparing.{not_again, head_there, head_live, head_new, head_texts, comes_again, comes_settled}
 use Rattle.domain_core.proofs.domain.Domain.next_call.Goals as goal
-use Rattle.domain_core.proofs.domain.Domain.next_call.Goals.{in-GoesOn, in-LooksUp}
 
 pub at-requires : goal.at-requires
 at-requires c =
-    subst (λ kept. Lives kept c.args.fiber) (sym c.self.view_is)
-    (head_lives c.args.script.now c.args.texts.now c.args.self.now c.args.fiber c.requires.stands.0 c.requires.stands.1)
+    subst (λ (kept : KeptDomain). IsSome (kept_at kept.fibers c.args.fiber)) (sym c.self.view_is)
+    (head_there c.args.script.now c.requires.runnable c.args.texts.now c.args.self.now c.args.fiber c.requires.owes c.requires.going c.requires.stands.0 c.requires.stands.1)
 
-pub unreachable-requires : goal.unreachable-requires
-unreachable-requires c = (
-    let there = ap (λ kept. kept_at kept.fibers c.args.fiber) (sym c.self.view_is) ∙ c.at.ensures in
-    let ready = head_ready c.args.script.now c.args.texts.now c.args.self.now c.args.fiber c.requires.stands.0 c.requires.stands.1 c.at.result.now there in
-    c.in_default.not-Ready ready.0 ready.1)
+pub returns-in-Some-clause-bodies : goal.returns-in-Some-clause-bodies
+returns-in-Some-clause-bodies c = c.made_again.ensures.bodies (nodes_of c.args.script.now)
 
-pub returns-in-ClosesAgain-clause-calls : goal.returns-in-ClosesAgain-clause-calls
-returns-in-ClosesAgain-clause-calls c l stands = (
-    let there = ap (λ kept. kept_at kept.fibers c.args.fiber) (sym c.self.view_is) ∙ c.at.ensures in
-    comes_again c.args.script.now c.args.texts.now c.args.self.now c.args.fiber l stands c.at.result.now there c.in-ClosesAgain.closing (c.in-Ready.is ∙ ap (λ it. standing.Ready it) c.in-ClosesAgain.is))
+pub came_to-requires-clause-live : goal.came_to-requires-clause-live
+came_to-requires-clause-live c =
+    head_live c.args.script.now c.requires.runnable c.args.texts.now c.args.self.now c.args.fiber c.requires.owes c.requires.going c.requires.stands.0 c.requires.stands.1
+
+pub settle-requires-clause-came : goal.settle-requires-clause-came
+settle-requires-clause-came c =
+    head_texts c.args.script.now c.requires.runnable c.args.texts.now c.args.self.now c.args.fiber c.requires.owes c.requires.going c.requires.stands.0 c.requires.stands.1
+    c.in_ok-came.came _ c.in_ok-came.ensures.came
+
+pub came_to-requires-clause-ready : goal.came_to-requires-clause-ready
+came_to-requires-clause-ready c = (
+    let there = ap (λ (kept : KeptDomain). kept_at kept.fibers c.args.fiber) (sym c.self.view_is) ∙ c.at.ensures.1 in
+    head_new c.args.script.now c.requires.runnable c.args.texts.now c.args.self.now c.args.fiber c.requires.owes c.requires.going c.requires.stands.0 c.requires.stands.1
+    _ there (not_again c.at.ensures.0 c.at.result.now.standing c.in_default.ensures.none))
+
+pub returns-in-Some-clause-calls : goal.returns-in-Some-clause-calls
+returns-in-Some-clause-calls c l stands = (
+    let there = ap (λ (kept : KeptDomain). kept_at kept.fibers c.args.fiber) (sym c.self.view_is) ∙ c.at.ensures.1 in
+    comes_again c.args.script.now c.requires.runnable c.args.texts.now c.args.self.now c.args.fiber c.requires.owes c.requires.going l stands _ there
+    c.made_again.result c.in-Some.again (ap (standing_of c.at.ensures.0) c.in-Some.ensures.some) (c.made_again.ensures.call (nodes_of c.args.script.now)))
 
 pub returns-clause-calls : goal.returns-clause-calls
 returns-clause-calls c = (
-    let brings : Brings c.in-Ready.next c.match-next.came = elim c.match-next.branch as (λ _. Brings c.in-Ready.next c.match-next.came) [
-      | in-GoesOn w ↦ inl (w.in-GoesOn.is ∙ ap (λ v. next.GoesOn v) (sym w.came-is))
-      | in-LooksUp w ↦ inr (w.in-LooksUp.is, w.came-is)
-    ] in
-    if_ok c.settle.result _ _
+    let same = c.self-2.view_is ∙ c.in_ok-came.ensures.kept in
+    IfOk-weaker c.settle.result _ _
     (λ call settled l stands.
-    comes_settled c.args.script.now c.args.texts.now _ c.args.fiber l (subst (λ kept. StandsFor c.args.script.now c.args.texts.now (with_head c.args.fiber kept) l) (sym c.self.view_is) stands)
-    c.match-next.came c.settle.new.texts c.settle.new.serials call c.settle.new.self settled c.in-Ready.next
-    (ap (λ (f : Fiber). f.standing) (same_Some _ _ (sym settled.reframes.there ∙ c.at.ensures)) ∙ c.in-Ready.is) brings)
+    subst (λ (kept : KeptDomain). ComesTo c.args.script.now c.settle.new.texts l c.args.fiber call kept)
+    (sym (ap (λ (kept : KeptDomain). record kept { fibers = c.settle.new.self; serial = c.settle.new.serials }) same))
+    (comes_settled c.args.script.now c.requires.runnable c.args.texts.now c.args.self.now c.args.fiber c.requires.owes c.requires.going l stands
+    c.in_ok-came.came c.came_to.new.self c.in_ok-came.ensures.came c.settle.new.texts c.settle.new.serials call c.settle.new.self
+    (subst (λ (kept : KeptDomain). Settles (nodes_of c.args.script.now) c.in_ok-came.came c.args.fiber kept.fibers c.args.texts.now kept.serial call c.settle.new.self c.settle.new.texts c.settle.new.serials) same settled)))
     c.settle.ensures)

@@ -1,75 +1,68 @@
-use Rattle.std.proofs.Common.{◌∙◌, ap, sym, subst, refl, length}
-use Rattle.std.specs.Prelude.{IsSome}
-use Rattle.domain_core.specs.Answering.{Lives, IsOn, Tells}
-use Rattle.domain_core.specs.Keeping.{kept_at}
-use Rattle.domain_core.specs.Stepping.{IsPlacedAt}
+use Rattle.std.proofs.Common.{◌≡◌, ℕ, List, length, ◌∙◌, ap, sym, subst}
+use Rattle.std.proofs.lemmas.Result.{on_ok_weaker}
+use Rattle.eio_value.specs.declared.value.Value.{Value}
+use Rattle.eio_value.specs.declared.value.Value.TheVariants as value
+use Rattle.fiber_step.specs.declared.ask.Ask.TheVariants as kept_ask
+use Rattle.fiber_step.specs.Standing.{ask_of}
+use Rattle.row_model.specs.Switches.{Switch}
 use Rattle.script_lang.specs.Flat.{nodes_of}
 use Rattle.script_lang.specs.declared.node.Node.{Node}
-use Rattle.std.proofs.Common.{ℕ, List}
-use Rattle.std.specs.Result.{result_ok}
-use Rattle.script_lang.specs.Standing.{block_at}
-use Rattle.machine_model.specs.Domain.{DomainState}
-use Rattle.machine_model.specs.Steps.{halts}
-use Rattle.domain_core.specs.Mirrors.{Mirrors}
-use Rattle.eio_value.specs.declared.value.Value.TheVariants as value
-use Rattle.row_model.specs.Switches.{Switch}
+use Rattle.step_model.specs.Asks.{Ask}
+use Rattle.trace_out.specs.declared.line.Did.TheVariants as did
 use Rattle.trace_out.specs.declared.line.Said2.TheVariants as said
-use Rattle.domain_core.proofs.Opening.{full_there, unmade, contexts_as, opens_there, opens_mirrors}
-use Rattle.domain_core.proofs.Mirroring.{lives_changed, tells_as, mirrors_as}
-use Rattle.domain_core.proofs.Entering.{placed_moved, reframed_lives}
+use Rattle.machine_model.specs.ContextMoves.{before_block, enters_context, sub_of}
+use Rattle.machine_model.specs.Domain.{DomainState}
+use Rattle.machine_model.specs.Moves.{own_call}
+use Rattle.machine_model.specs.Steps.{Step, halts, in_new}
+use Rattle.machine_model.specs.SwitchMoves.{opens}
+use Rattle.domain_core.specs.Answering.{MakesUnder}
+use Rattle.domain_core.specs.Keeping.{KeptDomain}
+use Rattle.domain_core.proofs.Composing.{makes_after, makes_as, makes_entering, makes_full, makes_in_new, makes_off, makes_on}
+use Rattle.domain_core.proofs.Scopes.{opens_there}
 use Rattle.domain_core.proofs.domain.Domain.open_switch.Goals as goal
 
-pub enter-requires-clause-lives : goal.enter-requires-clause-lives
-enter-requires-clause-lives c =
-    subst (λ fibers. IsSome (kept_at fibers c.args.fiber)) (sym c.go_to.ensures)
-    (lives_changed c.self.inside.fibers c.args.fiber _ (subst (λ kept. Lives kept c.args.fiber) (sym c.self.view_is) c.requires.lives))
+-- the block of this switch, in a context that is new
+abbrev enters_in : Ask → (number fiber : ℕ) → (context : ℕ) → DomainState → Step
+enters_in call n g c m = enters_context did.Switch (said.Done (value.Switch n)) c (before_block call n g m) g (opens c m)
 
-pub enter-requires-clause-placed : goal.enter-requires-clause-placed
-enter-requires-clause-placed c =
-    subst (λ fibers. IsPlacedAt (nodes_of c.args.script.now) c.args.fiber fibers) (sym c.go_to.ensures)
-    (placed_moved (nodes_of c.args.script.now) c.self.inside.fibers c.args.fiber _ (subst (λ kept. Lives kept c.args.fiber) (sym c.self.view_is) c.requires.lives)
-    (subst (λ kept. IsPlacedAt (nodes_of c.args.script.now) c.args.fiber kept.fibers) (sym c.self.view_is) c.requires.placed))
+abbrev goes : Ask → (fiber : ℕ) → DomainState → Value → Step
+goes call g l ignored = in_new (sub_of l g) g l (enters_in call (length l.switches) g)
 
-pub to_head-requires-clause-lives : goal.to_head-requires-clause-lives
-to_head-requires-clause-lives c = (let it = c.in_ok-enter.ensures in reframed_lives c.args.fiber _ c.enter.new.self it.reframes)
-
-pub returns-in_default-clause-answers : goal.returns-in_default-clause-answers
-returns-in_default-clause-answers c = (
+pub returns-in-Some-clause-answers : goal.returns-in-Some-clause-answers
+unfolding own_call
+returns-in-Some-clause-answers c = (
     let nodes : List Node = nodes_of c.args.script.now in
-    let on = subst (λ kept. IsOn kept c.args.fiber) (sym c.self.view_is) c.requires.on c.at.result.now c.at.ensures in
-    let none = sym c.sub.ensures.number ∙ ap result_ok c.in_default.is in
-    let kept_then = λ (texts : List (List ℕ)) (l : DomainState) (mirrors : Mirrors nodes texts c.args.self.now l).
-    subst (λ kept. Mirrors nodes texts kept l) (sym c.self.view_is) mirrors in
-    let found = λ (texts : List (List ℕ)) (l : DomainState) (mirrors : Mirrors nodes texts c.args.self.now l).
-    full_there nodes texts _ l (kept_then texts l mirrors) c.args.fiber c.at.result.now c.at.ensures on.0 on.1
-    c.args.script.now (block_at nodes c.args.body) none in
-    record {
-      tells = λ texts l mirrors. tells_as _ _ _ (found texts l mirrors)
-          (subst (λ told. Tells (halts c.args.fiber l) told) (sym c.halt.ensures.told)
-          (record { fiber = refl; did = refl; reply = refl; raises = refl }));
-      becomes = λ texts l mirrors. mirrors_as nodes texts _ _ _ (found texts l mirrors) (
-          let same = c.sub.ensures.after ∙ unmade c.at.result.now.context c.self.inside.contexts none in
-          c.halt.ensures.becomes nodes texts l (contexts_as nodes texts _ l c.sub.new.self (sym same) (kept_then texts l mirrors)));
-    })
+    let call : Ask = ask_of nodes (kept_ask.Switch c.args.body) in
+    on_ok_weaker c.raise_cancelled.result
+    (λ makes. makes_off nodes did.Switch c.args.fiber (goes call c.args.fiber) c.in-Some.why _ _ _ c.in-Some.ensures (makes nodes))
+    c.raise_cancelled.ensures.makes)
+
+pub returns-in_default-new_sub-clause-answers : goal.returns-in_default-new_sub-clause-answers
+unfolding own_call
+returns-in_default-new_sub-clause-answers c = (
+    let nodes : List Node = nodes_of c.args.script.now in
+    let call : Ask = ask_of nodes (kept_ask.Switch c.args.body) in
+    let g : ℕ = c.args.fiber in
+    makes_on nodes did.Switch g (goes call g) _ _ _ c.in_default.ensures
+    (makes_full nodes (λ l. sub_of l g) g (λ l. enters_in call (length l.switches) g) _ _ _ c.in_default-new_sub.ensures.number
+    (subst (λ (kept : KeptDomain). MakesUnder nodes (halts g) kept c.halt.new.told c.halt.new.self) c.in_default-new_sub.ensures.none (c.halt.ensures.makes nodes))))
 
 pub returns-clause-answers : goal.returns-clause-answers
+unfolding own_call
 returns-clause-answers c = (
     let nodes : List Node = nodes_of c.args.script.now in
-    let on = subst (λ kept. IsOn kept c.args.fiber) (sym c.self.view_is) c.requires.on c.at.result.now c.at.ensures in
-    let made = sym c.sub.ensures.number ∙ ap result_ok c.in-Ok.is in
-    let kept_then = λ (texts : List (List ℕ)) (l : DomainState) (mirrors : Mirrors nodes texts c.args.self.now l).
-    subst (λ kept. Mirrors nodes texts kept l) (sym c.self.view_is) mirrors in
-    let number = c.in_ok-switch.ensures.number in
-    record {
-      tells = λ texts l mirrors. tells_as _ _ _
-          (opens_there nodes texts _ l (kept_then texts l mirrors) c.args.fiber c.at.result.now c.at.ensures on.0 on.1 c.in-Ok.context made
-          c.sub.new.self c.sub.ensures.after c.open.new.self c.in_ok-switch.ensures.ok c.go_to.new.self c.go_to.ensures
-          c.args.script.now (block_at nodes c.args.body))
-          (let same = ap (λ (xs : List Switch). length xs) (kept_then texts l mirrors).switches in
-          record { fiber = refl; did = refl; reply = ap (λ n. said.Done (value.Switch n)) (same ∙ sym number); raises = refl });
-      becomes = λ texts l mirrors.
-          opens_mirrors nodes texts _ l (kept_then texts l mirrors) c.args.fiber c.at.result.now c.at.ensures on.0 on.1 c.in-Ok.context made
-          c.sub.new.self c.sub.ensures.after c.open.new.self c.in_ok-switch.ensures.ok c.go_to.new.self c.go_to.ensures
-          c.args.script.now c.args.body c.in_ok-switch.switch c.enter.new.self c.to_head.new.self number
-          c.in_ok-enter.ensures c.to_head.ensures.becomes;
-    })
+    let call : Ask = ask_of nodes (kept_ask.Switch c.args.body) in
+    let g : ℕ = c.args.fiber in
+    let new : ℕ = c.in-Some-new_sub.context in
+    let n : ℕ = c.in_ok-switch.switch in
+    let number : length c.args.self.now.switches ≡ n =
+    ap (λ (xs : List Switch). length xs) (sym c.new_sub.ensures.switches) ∙ sym (c.in_ok-switch.ensures.number ∙ ap (λ (kept : KeptDomain). length kept.switches) c.self.view_is) in
+    let room : DomainState → DomainState = λ l. record l { contexts = (sub_of l g).contexts } in
+    makes_on nodes did.Switch g (goes call g) _ _ _ c.in_default.ensures
+    (makes_in_new nodes (λ l. sub_of l g) g (λ l. enters_in call (length l.switches) g) new _ _ _ c.in-Some-new_sub.ensures.number
+    (makes_as nodes _ (λ (l : DomainState). enters_in call n g new (room l)) _ _ _
+    (λ texts l mirrors. ap (λ (m : ℕ). enters_in call m g new (room l)) (ap (λ (xs : List Switch). length xs) mirrors.switches ∙ number))
+    (makes_after nodes room (enters_in call n g new) _ c.new_sub.new.self _ _ (c.in-Some-new_sub.ensures.becomes nodes)
+    (makes_after nodes (opens new) (λ m. enters_context did.Switch (said.Done (value.Switch n)) new (before_block call n g m) g m) _ _ _ _
+    (opens_there nodes _ c.new_sub.new.self new c.open.new.self c.self.view_is c.in_ok-switch.ensures.ok)
+    (makes_entering nodes did.Switch (said.Done (value.Switch n)) call n new g _ _ c.in_ok-enter.ensures.becomes))))))

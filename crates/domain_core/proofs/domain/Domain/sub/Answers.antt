@@ -1,0 +1,57 @@
+use Rattle.std.proofs.Common.{ℕ, List, subst}
+use Rattle.std.proofs.lemmas.Result.{on_ok_weaker}
+use Rattle.eio_value.specs.declared.value.Value.{Value}
+use Rattle.eio_value.specs.declared.value.Value.TheVariants as value
+use Rattle.fiber_step.specs.declared.ask.Ask.TheVariants as kept_ask
+use Rattle.fiber_step.specs.Standing.{ask_of}
+use Rattle.script_lang.specs.Flat.{nodes_of}
+use Rattle.script_lang.specs.declared.node.Node.{Node}
+use Rattle.step_model.specs.Asks.{Ask}
+use Rattle.trace_out.specs.declared.line.Did.TheVariants as did
+use Rattle.trace_out.specs.declared.line.Said2.TheVariants as said
+use Rattle.machine_model.specs.ContextMoves.{before_block, enters_context, sub_of}
+use Rattle.machine_model.specs.Domain.{DomainState}
+use Rattle.machine_model.specs.Moves.{own_call}
+use Rattle.machine_model.specs.Steps.{Step, halts, in_new}
+use Rattle.domain_core.specs.Answering.{MakesUnder}
+use Rattle.domain_core.specs.Keeping.{KeptDomain}
+use Rattle.domain_core.proofs.Composing.{makes_after, makes_entering, makes_full, makes_in_new, makes_off, makes_on}
+use Rattle.domain_core.proofs.domain.Domain.sub.Goals as goal
+
+-- the block, in a context that is new
+abbrev enters_in : Ask → (fiber : ℕ) → (context : ℕ) → DomainState → Step
+enters_in call g c m = enters_context did.Sub (said.Done (value.Ctx c)) c (before_block call c g m) g m
+
+abbrev goes : Ask → (fiber : ℕ) → DomainState → Value → Step
+goes call g l ignored = in_new (sub_of l g) g l (enters_in call g)
+
+pub returns-in-Some-clause-answers : goal.returns-in-Some-clause-answers
+unfolding own_call
+returns-in-Some-clause-answers c = (
+    let nodes : List Node = nodes_of c.args.script.now in
+    let call : Ask = ask_of nodes (kept_ask.Sub c.args.body) in
+    on_ok_weaker c.raise_cancelled.result
+    (λ makes. makes_off nodes did.Sub c.args.fiber (goes call c.args.fiber) c.in-Some.why _ _ _ c.in-Some.ensures (makes nodes))
+    c.raise_cancelled.ensures.makes)
+
+pub returns-in_default-new_sub-clause-answers : goal.returns-in_default-new_sub-clause-answers
+unfolding own_call
+returns-in_default-new_sub-clause-answers c = (
+    let nodes : List Node = nodes_of c.args.script.now in
+    let call : Ask = ask_of nodes (kept_ask.Sub c.args.body) in
+    let g : ℕ = c.args.fiber in
+    makes_on nodes did.Sub g (goes call g) _ _ _ c.in_default.ensures
+    (makes_full nodes (λ l. sub_of l g) g (λ l. enters_in call g) _ _ _ c.in_default-new_sub.ensures.number
+    (subst (λ (kept : KeptDomain). MakesUnder nodes (halts g) kept c.halt.new.told c.halt.new.self) c.in_default-new_sub.ensures.none (c.halt.ensures.makes nodes))))
+
+pub returns-clause-answers : goal.returns-clause-answers
+unfolding own_call
+returns-clause-answers c = (
+    let nodes : List Node = nodes_of c.args.script.now in
+    let call : Ask = ask_of nodes (kept_ask.Sub c.args.body) in
+    let g : ℕ = c.args.fiber in
+    let new : ℕ = c.in-Some-new_sub.context in
+    makes_on nodes did.Sub g (goes call g) _ _ _ c.in_default.ensures
+    (makes_in_new nodes (λ l. sub_of l g) g (λ l. enters_in call g) new _ _ _ c.in-Some-new_sub.ensures.number
+    (makes_after nodes (λ l. record l { contexts = (sub_of l g).contexts }) (enters_in call g new) _ c.new_sub.new.self _ _ (c.in-Some-new_sub.ensures.becomes nodes)
+    (makes_entering nodes did.Sub (said.Done (value.Ctx new)) call new new g _ _ c.in_ok-enter.ensures.becomes))))

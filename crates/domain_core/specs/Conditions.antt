@@ -1,0 +1,123 @@
+-- What the methods of a domain ask, in the words of what is kept.
+use Rattle.std.specs.Prelude.{◌≡◌, ◌≢◌, ℕ, ◌+◌, ◌<◌, ◌≤◌, ◌⊎◌, Bool, true, false, is_some, [], length, Option, Some}
+use Rattle.std.specs.List.{Contains}
+use Rattle.block_laws.specs.Beginnings.{BeginsBlock}
+use Rattle.cancel_tree.specs.Endings.{HasNoLiveChild}
+use Rattle.cancel_tree.specs.Waits.{waits, waits_in}
+use Rattle.domain_kinds.specs.KindedStates.{handlers_of}
+use Rattle.domain_laws.specs.SoundStates.{attached_to, own_branches}
+use Rattle.eio_value.specs.declared.raised.Outcome.{Outcome}
+use Rattle.eio_value.specs.declared.raised.Raised.{Raised}
+use Rattle.machine_model.specs.Domain.{Role, OfBody, OfSwitch, OfGroup, ForCancel, ForOthers, Standing, Ready, Parked, Ended}
+use Rattle.machine_model.specs.Steps.{can_be_cancelled}
+use Rattle.row_model.specs.Contexts.{is_live}
+use Rattle.row_model.specs.Groups.{group_at}
+use Rattle.row_model.specs.Switches.{Handler, switch_at}
+use Rattle.script_model.specs.Scripts.{Script}
+use Rattle.step_model.specs.Asks.{Ask}
+use Rattle.switch_core.specs.Attaching.{IsAttached}
+use Rattle.domain_core.specs.Answering.{SameFibers}
+use Rattle.domain_core.specs.Keeping.{KeptFiber, KeptDomain, kept_at}
+
+-- ## Fibers
+
+-- it is parked, in a wait that a cancellation ends
+abbrev pub waits_so : Standing → Bool
+waits_so standing = elim standing [ Parked wait ↦ can_be_cancelled wait | Ready next ↦ false | Ended it ↦ false ]
+
+-- the fiber hasn't ended, and no cancellation ends a wait of it: as a fiber that calls, and one that waits for others
+pub record IsAwake (kept : KeptDomain) (g : ℕ) : Type 0 where
+  pub fiber : KeptFiber
+  pub there : kept_at kept.fibers g ≡ Some fiber
+  pub awake : waits_so fiber.standing ≡ false
+
+-- the fiber runs in a live context
+abbrev pub RunsInLive : KeptDomain → (fiber : ℕ) → Type 0
+RunsInLive kept g = (fiber : KeptFiber) → kept_at kept.fibers g ≡ Some fiber → is_live kept.contexts.made fiber.context ≡ true
+
+-- the fiber waits for others
+abbrev pub IsParked : KeptDomain → (fiber : ℕ) → Type 0
+IsParked kept g = (fiber : KeptFiber) × (call : Ask) × (kept_at kept.fibers g ≡ Some fiber) × (fiber.standing ≡ Parked (ForOthers call))
+
+-- beside the fiber that calls there is room in the ready list for one that waits for others
+abbrev pub HasRoomForParked : KeptDomain → Type 0
+HasRoomForParked kept = (g : ℕ) → IsParked kept g → length kept.ready + 1 < 1024
+
+-- ## Contexts
+
+-- the context of each switch that hasn't finished is live
+abbrev pub HasLiveContexts : KeptDomain → Type 0
+HasLiveContexts kept = (n : ℕ) → n < length kept.switches → (switch_at kept.switches n).finished ≡ false
+    → is_live kept.contexts.made (switch_at kept.switches n).context ≡ true
+
+-- the context may end
+pub record MayEndContext (kept : KeptDomain) (context : ℕ) : Type 0 where
+  pub live : is_live kept.contexts.made context ≡ true
+  pub childless : HasNoLiveChild kept.contexts.made context
+  pub idle : waits_in context kept.contexts.waiting ≡ false
+
+-- ## Switches
+
+-- no switch has this fiber
+abbrev pub IsAttachedToNone : KeptDomain → (fiber : ℕ) → Type 0
+IsAttachedToNone kept g = (n : ℕ) → ¬ IsAttached g (switch_at kept.switches n)
+
+-- a switch that a fiber may close: its context may end once nobody is attached
+pub record MayClose (kept : KeptDomain) (switch : ℕ) : Type 0 where
+  pub opened : switch < length kept.switches
+  pub unfinished : (switch_at kept.switches switch).finished ≡ false
+  pub ends : ((daemon : Bool) → attached_to daemon (switch_at kept.switches switch) ≡ []) → MayEndContext kept (switch_at kept.switches switch).context
+
+-- a block of the script begins at the node of each handler of the switch that is still to run
+abbrev pub HandlersBegin : Script → KeptDomain → (switch : ℕ) → Type 0
+HandlersBegin script kept n = (handler : Handler) → Contains (handlers_of (switch_at kept.switches n)) handler → BeginsBlock script handler.block
+
+-- what a failure leaves: no fiber stands otherwise, what may end may still end, and of each switch nothing but its errors has changed
+pub record LeavesScopes (old new : KeptDomain) : Type 0 where
+  pub fibers : SameFibers old new
+  pub contexts : length new.contexts.made ≡ length old.contexts.made
+  pub live : (c : ℕ) → is_live new.contexts.made c ≡ is_live old.contexts.made c
+  pub ends : (c : ℕ) → MayEndContext old c → MayEndContext new c
+  pub opened : length new.switches ≡ length old.switches
+  pub switches : (n : ℕ) → (errors : Option Raised) × (switch_at new.switches n ≡ record (switch_at old.switches n) { errors = errors })
+  pub groups : new.groups ≡ old.groups
+
+-- ## Ends
+
+-- the end of a fiber: that of the body ends its context, that of another one takes it off its switch or its group. The body is the first fiber
+abbrev pub MayEndAs : KeptDomain → (fiber context : ℕ) → Role → Type 0
+MayEndAs kept g context OfBody = (g ≡ 0) × MayEndContext kept context
+MayEndAs kept g context (OfSwitch switch daemon) = (switch < length kept.switches) × IsAttached g (switch_at kept.switches switch) × (g ≢ 0)
+MayEndAs kept g context (OfGroup group) = (group < length kept.groups) × (g ≢ 0)
+MayEndAs kept g context role = ⊥
+
+abbrev pub MayEnd : KeptDomain → (fiber : ℕ) → Type 0
+MayEnd kept g = (fiber : KeptFiber) → kept_at kept.fibers g ≡ Some fiber → MayEndAs kept g fiber.context fiber.role
+
+-- ## Groups
+
+-- what the end of a branch leaves: who is woken stands last in the ready list, what may end may still end, and each group has its context
+pub record LeavesGroups (old new : KeptDomain) : Type 0 where
+  pub awake : (g : ℕ) → IsAwake old g → IsAwake new g
+  pub ready : (new.ready ≡ old.ready) ⊎ ((g : ℕ) × IsParked old g × (length new.ready ≡ length old.ready + 1))
+  pub ends : (c : ℕ) → MayEndContext old c → MayEndContext new c
+  pub made : length new.groups ≡ length old.groups
+  pub contexts : (n : ℕ) → (group_at new.groups n).context ≡ (group_at old.groups n).context
+
+-- a group that a fiber may join, whose own branch is about to end if one came: the group's context may end once no other branch is left
+pub record MayJoin (kept : KeptDomain) (group : ℕ) (own : Option Outcome) : Type 0 where
+  pub made : group < length kept.groups
+  pub some_left : own_branches (is_some own) ≤ (group_at kept.groups group).left
+  pub ends : (group_at kept.groups group).left ≡ own_branches (is_some own) → MayEndContext kept (group_at kept.groups group).context
+
+-- ## Strikes
+
+-- the fiber waits for nothing but that it is cancelled
+abbrev pub AwaitsCancel : KeptDomain → (fiber : ℕ) → Type 0
+AwaitsCancel kept g = (fiber : KeptFiber) × (kept_at kept.fibers g ≡ Some fiber) × (fiber.standing ≡ Parked ForCancel)
+
+-- what a strike asks of a fiber that waits so
+pub record MayStrike (kept : KeptDomain) (g : ℕ) : Type 0 where
+  pub room : AwaitsCancel kept g → length kept.ready < 1024
+  pub live : AwaitsCancel kept g → RunsInLive kept g
+  pub waits : AwaitsCancel kept g → waits g kept.contexts.waiting ≡ true
