@@ -1,5 +1,5 @@
 -- What is due, by the command that the words mean; and what was written and can come, from what a command's own crate says.
-use Rattle.std.proofs.Common.{◌≡◌, ◌≢◌, ℕ, List, Some, None, IfSome, refl, ap, sym, subst, ◌∙◌}
+use Rattle.std.proofs.Common.{◌≡◌, ℕ, List, Some, None, IfSome, refl, ap, sym, subst, ◌∙◌}
 use Rattle.std.specs.Prelude.{Option}
 use Rattle.trace_out.specs.Outcome.{CanCome, Due, WritesFor}
 use Rattle.trace_out.specs.declared.status.Status.{Status}
@@ -13,8 +13,10 @@ use Rattle.script_input.specs.declared.inspection.Inspection.TheVariants as insp
 use Rattle.script_input.specs.Inspections.{inspected}
 use Rattle.script_input.specs.Inspections as inspections
 use Rattle.machine_model.specs.Answers.{mocked}
+use Rattle.machine_model.specs.Domain.{DomainState}
+use Rattle.mock_backend.specs.Causes.{ComesExactlyOf, RunsTo}
 use Rattle.mock_backend.specs.Due.{due}
-use Rattle.eio_run.specs.Answers.{CanComeOf, due_by, due_to, Writes}
+use Rattle.eio_run.specs.Answers.{CanComeOf, MockRunsTo, due_by, due_to, Writes}
 
 due_for : Built → Option Command → List ℕ → Option Due
 due_for built meant bytes = due_by built (elim meant [ None ↦ None | Some command ↦ checked_for command bytes ]) meant bytes
@@ -48,11 +50,35 @@ print_writes built words meant result left old new means is writes =
 
 -- ## What can come
 
-pub mock_comes : (built : Built) (words : List (List ℕ)) (meant : Option Command) (steps : ℕ) (result : Status) → meant ≡ meaning built words → meant ≡ Some (command.Mock steps) → result ≢ status.Raised → CanComeOf (meaning built words) result
-mock_comes built words meant steps result means is quiet = subst (λ (o : Option Command). CanComeOf o result) (sym (sym means ∙ is)) quiet
+pub mock_comes : (built : Built) (words : List (List ℕ)) (meant : Option Command) (steps : ℕ) (result : Status) → meant ≡ meaning built words → meant ≡ Some (command.Mock steps) → CanComeOf (meaning built words) result
+mock_comes built words meant steps result means is = subst (λ (o : Option Command). CanComeOf o result) (sym (sym means ∙ is)) tt
 
 pub check_comes : (built : Built) (words : List (List ℕ)) (meant : Option Command) (result : Status) → meant ≡ meaning built words → meant ≡ Some command.Check → CanCome result → CanComeOf (meaning built words) result
 check_comes built words meant result means is comes = subst (λ (o : Option Command). CanComeOf o result) (sym (sym means ∙ is)) comes
 
 pub print_comes : (built : Built) (words : List (List ℕ)) (meant : Option Command) (result : Status) → meant ≡ meaning built words → meant ≡ Some command.Print → CanCome result → CanComeOf (meaning built words) result
 print_comes built words meant result means is comes = subst (λ (o : Option Command). CanComeOf o result) (sym (sym means ∙ is)) comes
+
+-- ## Why it comes
+
+module _ (State : DomainState → Type 0) (built : Built) (words : List (List ℕ)) (meant : Option Command) (means : meant ≡ meaning built words) (expected result : Status) where
+  pub mock_has_cause : (steps : ℕ) (left : Option (List ℕ)) → meant ≡ Some (command.Mock steps) → IfSome left (λ bytes. ComesExactlyOf (RunsTo State steps bytes) expected result)
+      → IfSome left (λ bytes. ComesExactlyOf (MockRunsTo State (meaning built words) bytes) expected result)
+  mock_has_cause steps left is causes =
+      subst (λ (o : Option Command). IfSome left (λ bytes. ComesExactlyOf (MockRunsTo State o bytes) expected result)) (sym (sym means ∙ is)) causes
+
+  -- no other command runs anything
+  pub other_has_none : (left : Option (List ℕ)) (other : Option Command) → meant ≡ other → ((bytes : List ℕ) → MockRunsTo State other bytes → ⊥) → (result ≡ expected → ⊥)
+      → IfSome left (λ bytes. ComesExactlyOf (MockRunsTo State (meaning built words) bytes) expected result)
+  other_has_none left other is runs differs =
+      subst (λ (o : Option Command). IfSome left (λ bytes. ComesExactlyOf (MockRunsTo State o bytes) expected result)) (sym (sym means ∙ is)) (by left)
+    where
+      by : (left : Option (List ℕ)) → IfSome left (λ bytes. ComesExactlyOf (MockRunsTo State other bytes) expected result)
+      by None = tt
+      by (Some bytes) = record { only = λ same. absurd (differs same); always = λ run. absurd (runs bytes run) }
+
+pub no_raise : (result : Status) → CanCome result → result ≡ status.Raised → ⊥
+no_raise result comes same = subst CanCome same comes
+
+pub no_deadlock : (result : Status) → CanCome result → result ≡ status.Deadlock → ⊥
+no_deadlock result comes same = subst CanCome same comes

@@ -10,7 +10,7 @@ use Rattle.script_model.specs.declared.Command.TheVariants as command
 use Rattle.script_model.specs.declared.Feature.TheVariants as feature
 use Rattle.script_model.specs.Features.{is_built}
 use Rattle.script_model.specs.Limits.{most_lines, most_load}
-use Rattle.script_model.specs.Today.{built_today}
+use Rattle.mock_backend.specs.Today.{built_today}
 use Rattle.script_model.specs.Words.{Asked, asked, asks_number, number_of, option_value, mock_words, domains_words, lone_word, load_words, meaning}
 use Rattle.eio_run.specs.Words.{only_if, if_built}
 

@@ -1,9 +1,8 @@
 -- What is due to an input under the words of a command line, and what is written of it.
-use Rattle.std.specs.Prelude.{◌≢◌, ℕ, List, Option, Some, None}
+use Rattle.std.specs.Prelude.{ℕ, List, Option, Some, None}
 use Rattle.std.specs.Io.KnownBytes.{Keeps}
 use Rattle.trace_out.specs.Outcome.{CanCome, Due, WritesFor}
 use Rattle.trace_out.specs.declared.status.Status.{Status}
-use Rattle.trace_out.specs.declared.status.Status.TheVariants as status
 use Rattle.script_model.specs.declared.Command.{Command}
 use Rattle.script_model.specs.declared.Command.TheVariants as command
 use Rattle.script_model.specs.Features.{Built}
@@ -11,6 +10,8 @@ use Rattle.script_model.specs.Inputs.{Checked, answered}
 use Rattle.script_model.specs.Words.{meaning}
 use Rattle.script_input.specs.Inspections as inspections
 use Rattle.machine_model.specs.Answers.{mocked}
+use Rattle.machine_model.specs.Domain.{DomainState}
+use Rattle.mock_backend.specs.Causes.{RunsTo}
 use Rattle.mock_backend.specs.Due.{due}
 
 -- of `mock` what the machine answers in so many steps
@@ -32,7 +33,12 @@ abbrev pub Writes : Status → Option Due → Option (List ℕ) → Option (List
 Writes result None old new = Keeps old new
 Writes result (Some due) old new = WritesFor result due old new
 
--- the statuses that can come: of `mock` all but Raised, since no form that is built raises; else those of a command that runs nothing
+-- the statuses that can come: of `mock` any that `Usage` leaves; else those of a command that runs nothing
 abbrev pub CanComeOf : Option Command → Status → Type 0
-CanComeOf (Some (command.Mock steps)) result = result ≢ status.Raised
+CanComeOf (Some (command.Mock steps)) result = Unit {0}
 CanComeOf _ result = CanCome result
+
+-- `mock` is asked for, and runs the bytes to such a state
+abbrev pub MockRunsTo : (state : DomainState → Type 0) → Option Command → (bytes : List ℕ) → Type 0
+MockRunsTo state (Some (command.Mock steps)) bytes = RunsTo state steps bytes
+MockRunsTo state _ bytes = ⊥

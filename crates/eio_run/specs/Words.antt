@@ -4,7 +4,7 @@ use Rattle.script_model.specs.declared.Command.{Command}
 use Rattle.script_model.specs.declared.Command.TheVariants as command
 use Rattle.script_model.specs.Features.{is_built}
 use Rattle.script_model.specs.Limits.{most_steps}
-use Rattle.script_model.specs.Today.{built_today}
+use Rattle.mock_backend.specs.Today.{built_today}
 use Rattle.script_model.specs.Words.{Asked}
 
 abbrev pub only_if : Bool → Command → Option Command

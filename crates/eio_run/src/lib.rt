@@ -6,6 +6,8 @@
 
 #[cfg(test)]
 mod examples;
+#[cfg(test)]
+mod forms;
 mod rest;
 mod steps;
 #[cfg(test)]

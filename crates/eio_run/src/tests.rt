@@ -7,10 +7,10 @@ use std::test::Fail;
 use trace_out::{MemSink, MemSource, OpenGate, Status};
 
 /// More room, in bytes, than any text here needs.
-const ROOM: usize = 1_048_576;
+pub const ROOM: usize = 1_048_576;
 
 /// Words as a command line has them.
-fn words_of(alloc: Global, line: &str) -> Result<Vec<String>, AllocError> {
+pub fn words_of(alloc: Global, line: &str) -> Result<Vec<String>, AllocError> {
     let mut words = Vec::new(alloc);
     for word in line.split_whitespace() {
         words.push(String::from_str(alloc, word)?)?;
@@ -19,7 +19,12 @@ fn words_of(alloc: Global, line: &str) -> Result<Vec<String>, AllocError> {
 }
 
 /// A source of these bytes, in pieces of at most `most`, whose call of number `fails` fails.
-fn source_of(alloc: Global, bytes: &str, most: usize, fails: u64) -> Result<MemSource, AllocError>
+pub fn source_of(
+    alloc: Global,
+    bytes: &str,
+    most: usize,
+    fails: u64,
+) -> Result<MemSource, AllocError>
     requires { 1 ≤ most }
 {
     Ok(MemSource {
@@ -97,8 +102,11 @@ fn refusals_of_mock(rt: HostRuntime) -> Result<(), Fail> {
             "(eio 1 (main (check)) (domain))",
             "!Refused DomainOnly at 22\n",
         ),
-        ("(eio 1 (main (check)))", "!Refused Unbuilt at 13\n"),
-        ("(eio 1 (main (trace 5)))", "!Refused Unbuilt at 13\n"),
+        ("(eio 1 (main (sleep 1)))", "!Refused Unbuilt at 13\n"),
+        (
+            "(eio 1 (main (trace 5) (let t (now))))",
+            "!Refused Unbuilt at 30\n",
+        ),
         ("(eio 1 (stream s 1) (main))", "!Refused Unbuilt at 7\n"),
     ];
     for line in ["mock", "mock --steps 1"] {

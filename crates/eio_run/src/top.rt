@@ -2,9 +2,10 @@
 ghost use Rattle.std.specs.Prelude.{◌≡◌, ◌≤◌, ◌↔◌, map, IfSome, None};
 ghost use Rattle.std.specs.String.{string_bytes};
 ghost use Rattle.trace_out.specs.Outcome.{ReadsFor, HasItsCause};
-ghost use Rattle.script_model.specs.Today.{built_today};
+ghost use Rattle.mock_backend.specs.Causes.{ComesExactlyOf, EndsRaised, IsStuck};
+ghost use Rattle.mock_backend.specs.Today.{built_today};
 ghost use Rattle.script_model.specs.Words.{meaning};
-ghost use Rattle.eio_run.specs.Answers.{due_to, Writes, CanComeOf};
+ghost use Rattle.eio_run.specs.Answers.{due_to, Writes, CanComeOf, MockRunsTo};
 
 use crate::words::command_of;
 use mock_backend::mock_run;
@@ -21,6 +22,9 @@ use trace_out::{Gate, Sink, Source, Status};
 /// The commands today are `mock`, which runs a script on one mocked domain, in at most as many moves as its option says; `check`, which says whether the input is a script of the
 /// notation; and `print`, which writes such a script in its canonical spelling. Words without a meaning are answered by `Usage`
 /// before anything is read. At most 262,145 bytes are read. The gate is never asked by these commands.
+///
+/// A run of `mock` has `Raised` exactly where it came to rest, main having ended with an exception, and `Deadlock` exactly where it came to
+/// rest and main hasn't ended; at rest no limit was met, and no strike is owed, no fiber is ready and no timer stands.
 ///
 /// What `print` writes spells a tree that stands for the same script, offsets aside; where it has at most 262,144 bytes it is read again
 /// as that script and printed as the same bytes. That is a law over the definitions (`print_reads_again` of `script_laws`).
@@ -46,8 +50,12 @@ pub fn eio_run<R: Threads + Wait + Sync, S: Source, K: Sink, G: Gate>(
     ensures source_later { S.faults source.old ≤ S.faults source.new }
     ensures sink_later { K.faults sink.old ≤ K.faults sink.new }
 
-    // No form that is run raises. `check` and `print` run nothing, so that none of the statuses of a run comes of them.
+    // `check` and `print` run nothing, so that none of the statuses of a run comes of them.
     ensures over { CanComeOf (meaning built_today (map string_bytes words.now)) result }
+
+    // The two endings of a run that comes to rest otherwise than well, each with its cause.
+    ensures raised { IfSome (S.left source.old) (λ bytes. ComesExactlyOf (MockRunsTo EndsRaised (meaning built_today (map string_bytes words.now)) bytes) Status.Raised result) }
+    ensures deadlock { IfSome (S.left source.old) (λ bytes. ComesExactlyOf (MockRunsTo IsStuck (meaning built_today (map string_bytes words.now)) bytes) Status.Deadlock result) }
 {
     match command_of(alloc, words) {
         None => Status::Usage,

@@ -1,7 +1,7 @@
 //! What the words of a command line ask for. The first word names the command and is read by hand; what is behind it, by the command.
 ghost use Rattle.std.specs.Prelude.{◌≡◌, map};
 ghost use Rattle.std.specs.String.{string_bytes};
-ghost use Rattle.script_model.specs.Today.{built_today};
+ghost use Rattle.mock_backend.specs.Today.{built_today};
 ghost use Rattle.script_model.specs.Words as words;
 ghost use Rattle.script_model.specs.Words.{meaning};
 ghost use Rattle.eio_run.specs.Words.{if_built, IsOfToday};

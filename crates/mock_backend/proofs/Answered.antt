@@ -6,7 +6,7 @@ use Rattle.std.specs.Io.KnownBytes.{Appends}
 use Rattle.std.proofs.KnownBytes.{Appends-trans}
 use Rattle.script_model.specs.Inputs.{mocked_script}
 use Rattle.script_model.specs.Scripts.{Script}
-use Rattle.script_laws.specs.FirstForms.{first_built}
+use Rattle.mock_backend.specs.Today.{built_today}
 use Rattle.trace_out.specs.Causes.{AppendsFront}
 use Rattle.trace_out.specs.Input.{ReadsInput}
 use Rattle.trace_out.specs.Outcome.{Due, HasRead, ReadsFor, WritesFor}
@@ -15,7 +15,6 @@ use Rattle.trace_out.proofs.Appended.{front_after, front_longer}
 use Rattle.machine_model.specs.declared.Ending.{Ending}
 use Rattle.machine_model.specs.declared.Ending.TheVariants as ending
 use Rattle.machine_model.specs.Answers.{Answer, ended, ran, ran_if, mocked}
-use Rattle.machine_model.specs.Mock.{Mock}
 use Rattle.machine_model.specs.Trace.{run, trace, ending_in, last_line}
 use Rattle.script_input.specs.declared.refusal.Refusal.{Refusal as Refused}
 use Rattle.script_input.specs.Refusals.{IsRefusedAs, line_of}
@@ -39,56 +38,52 @@ ran_text script n = refl
 pub front_of_trace : (old now : Option (List ℕ)) (script : Script) (n : ℕ) → AppendsFront old now (trace script (run script n).moves) → AppendsFront old now (ran script n).text
 front_of_trace old now script n front = subst (AppendsFront old now) (sym (ran_text script n)) (front_longer old now _ _ front)
 
-line_at : (script : Script) (n : ℕ) (e : Ending) (line : List ℕ) → e ≡ ending_in script (run script n).last → ((m : Mock) → line ≡ last_line e m) → line ≡ last_line (ending_in script (run script n).last) (run script n).last
-line_at script n e line ends is = is (run script n).last ∙ ap (λ end. last_line end (run script n).last) ends
+pub front_of_text : (old mid now : Option (List ℕ)) (script : Script) (n : ℕ) → Appends old mid (trace script (run script n).moves)
+    → AppendsFront mid now (last_line (ending_in script (run script n).last) (run script n).last) → AppendsFront old now (ran script n).text
+front_of_text old mid now script n traced front = subst (AppendsFront old now) (sym (ran_text script n)) (front_after old mid now _ _ traced front)
 
-pub front_of_text : (old mid now : Option (List ℕ)) (script : Script) (n : ℕ) (e : Ending) (line : List ℕ) → e ≡ ending_in script (run script n).last → ((m : Mock) → line ≡ last_line e m)
-    → Appends old mid (trace script (run script n).moves) → AppendsFront mid now line → AppendsFront old now (ran script n).text
-front_of_text old mid now script n e line ends is traced front =
-    subst (AppendsFront old now) (sym (ran_text script n)) (front_after old mid now _ _ traced (subst (AppendsFront mid now) (line_at script n e line ends is) front))
+pub whole_text : (old mid now : Option (List ℕ)) (script : Script) (n : ℕ) → Appends old mid (trace script (run script n).moves)
+    → Appends mid now (last_line (ending_in script (run script n).last) (run script n).last) → Appends old now (ran script n).text
+whole_text old mid now script n traced appended = subst (Appends old now) (sym (ran_text script n)) (Appends-trans old mid now _ _ traced appended)
 
-pub whole_text : (old mid now : Option (List ℕ)) (script : Script) (n : ℕ) (e : Ending) (line : List ℕ) → e ≡ ending_in script (run script n).last → ((m : Mock) → line ≡ last_line e m)
-    → Appends old mid (trace script (run script n).moves) → Appends mid now line → Appends old now (ran script n).text
-whole_text old mid now script n e line ends is traced appended =
-    subst (Appends old now) (sym (ran_text script n)) (Appends-trans old mid now _ _ traced (subst (Appends mid now) (line_at script n e line ends is) appended))
+-- the line behind the trace, or a front of it, completes the text, or a front of it
+pub text_with_line : (old mid now : Option (List ℕ)) (script : Script) (n : ℕ) (result : Result Ending RunFault) → Appends old mid (trace script (run script n).moves)
+    → WritesText mid now (last_line (ending_in script (run script n).last) (run script n).last) result → WritesText old now (ran script n).text result
+text_with_line old mid now script n (Ok e) traced writes = whole_text old mid now script n traced writes
+text_with_line old mid now script n (Err it) traced writes = front_of_text old mid now script n traced writes
 
 -- ## Of an input
 
-answer_is : (n : ℕ) (bytes : List ℕ) → answer_to n bytes ≡ ran_if n (mocked_script first_built bytes)
+pub answer_is : (n : ℕ) (bytes : List ℕ) → answer_to n bytes ≡ ran_if n (mocked_script built_today bytes)
 unfolding mocked
 answer_is n bytes = refl
 
-answer_runs : (n : ℕ) (bytes : List ℕ) (script : Script) → mocked_script first_built bytes ≡ Ok script → answer_to n bytes ≡ ran script n
+answer_runs : (n : ℕ) (bytes : List ℕ) (script : Script) → mocked_script built_today bytes ≡ Ok script → answer_to n bytes ≡ ran script n
 answer_runs n bytes script is = answer_is n bytes ∙ ap (ran_if n) is
 
 -- a script that was run is the answer to its input
-pub script_answered : (n : ℕ) (bytes : List ℕ) (script : Script) (result : Result Ending RunFault) → mocked_script first_built bytes ≡ Ok script → IfOk result (λ e. e ≡ (ran script n).ending) → IfOk result (λ e. e ≡ (answer_to n bytes).ending)
+pub script_answered : (n : ℕ) (bytes : List ℕ) (script : Script) (result : Result Ending RunFault) → mocked_script built_today bytes ≡ Ok script → IfOk result (λ e. e ≡ (ran script n).ending) → IfOk result (λ e. e ≡ (answer_to n bytes).ending)
 script_answered n bytes script result is ends = subst (λ (a : Answer). IfOk result (λ e. e ≡ a.ending)) (sym (answer_runs n bytes script is)) ends
 
-pub script_written : (old now : Option (List ℕ)) (n : ℕ) (bytes : List ℕ) (script : Script) (result : Result Ending RunFault) → mocked_script first_built bytes ≡ Ok script → WritesText old now (ran script n).text result → WritesText old now (answer_to n bytes).text result
+pub script_written : (old now : Option (List ℕ)) (n : ℕ) (bytes : List ℕ) (script : Script) (result : Result Ending RunFault) → mocked_script built_today bytes ≡ Ok script → WritesText old now (ran script n).text result → WritesText old now (answer_to n bytes).text result
 script_written old now n bytes script result is writes = subst (λ (a : Answer). WritesText old now a.text result) (sym (answer_runs n bytes script is)) writes
 
 -- and so is a refusal
-refusal_answer : (n : ℕ) (bytes : List ℕ) (refusal : Refused) → IsRefusedAs refusal (mocked_script first_built bytes) → answer_to n bytes ≡ record { text = line_of refusal; ending = ending.Refused }
+refusal_answer : (n : ℕ) (bytes : List ℕ) (refusal : Refused) → IsRefusedAs refusal (mocked_script built_today bytes) → answer_to n bytes ≡ record { text = line_of refusal; ending = ending.Refused }
 refusal_answer n bytes refusal refused =
     let made : List ℕ → Answer = λ text. record { text = text; ending = ending.Refused } in
     answer_is n bytes ∙ (ap (ran_if n) refused.refused ∙ ap made (line_is refused.why ∙ ap line_of (sym refused.same)))
 
-pub refusal_answered : (n : ℕ) (bytes : List ℕ) (refusal : Refused) (result : Result Ending RunFault) → IsRefusedAs refusal (mocked_script first_built bytes) → IfOk result (λ e. e ≡ ending.Refused) → IfOk result (λ e. e ≡ (answer_to n bytes).ending)
+pub refusal_answered : (n : ℕ) (bytes : List ℕ) (refusal : Refused) (result : Result Ending RunFault) → IsRefusedAs refusal (mocked_script built_today bytes) → IfOk result (λ e. e ≡ ending.Refused) → IfOk result (λ e. e ≡ (answer_to n bytes).ending)
 refusal_answered n bytes refusal result refused ends = subst (λ (a : Answer). IfOk result (λ e. e ≡ a.ending)) (sym (refusal_answer n bytes refusal refused)) ends
 
-pub refusal_written : (old now : Option (List ℕ)) (n : ℕ) (bytes : List ℕ) (refusal : Refused) (result : Result Ending RunFault) → IsRefusedAs refusal (mocked_script first_built bytes) → WritesText old now (line_of refusal) result → WritesText old now (answer_to n bytes).text result
+pub refusal_written : (old now : Option (List ℕ)) (n : ℕ) (bytes : List ℕ) (refusal : Refused) (result : Result Ending RunFault) → IsRefusedAs refusal (mocked_script built_today bytes) → WritesText old now (line_of refusal) result → WritesText old now (answer_to n bytes).text result
 refusal_written old now n bytes refusal result refused writes = subst (λ (a : Answer). WritesText old now a.text result) (sym (refusal_answer n bytes refusal refused)) writes
-
--- no refusal raises
-pub refused_is_calm : (result : Result Ending RunFault) → IfOk result (λ e. e ≡ ending.Refused) → IfOk result (λ e. e ≢ ending.Raised)
-refused_is_calm (Ok e) is = λ raised. cc
-refused_is_calm (Err it) is = tt
 
 -- ## Of what was read
 
 -- what was read decides the answer to the whole input
-same_answer : (n : ℕ) (bytes input : List ℕ) (new : Option (List ℕ)) → ReadsInput (Some bytes) new input → answer_to n bytes ≡ answer_to n input
+pub same_answer : (n : ℕ) (bytes input : List ℕ) (new : Option (List ℕ)) → ReadsInput (Some bytes) new input → answer_to n bytes ≡ answer_to n input
 same_answer n bytes input None reads = absurd reads.taken
 same_answer n bytes input (Some rest) reads =
     ap (answer_to n) reads.taken ∙ (answer_is n (input ++ rest) ∙ (ap (ran_if n) (mocked_front input rest reads.whole) ∙ sym (answer_is n input)))
@@ -124,15 +119,6 @@ pub front_of_answer : (left rest : Option (List ℕ)) (n : ℕ) (input : List �
 front_of_answer None rest n input old new reads a = tt
 front_of_answer (Some bytes) rest n input old new reads a =
     subst (λ (b : Answer). AppendsFront old new b.text) (sym (same_answer n bytes input rest reads)) a
-
--- only an exception is answered by its status
-pub status_calm : (e : Ending) → e ≢ ending.Raised → ended e ≢ status.Raised
-status_calm ending.Ok calm same = cc
-status_calm ending.Raised calm same = calm refl
-status_calm ending.Refused calm same = cc
-status_calm ending.Deadlock calm same = cc
-status_calm ending.OutOfSteps calm same = cc
-status_calm ending.Limit calm same = cc
 
 pub status_asked : (e : Ending) → ended e ≢ status.Usage
 status_asked ending.Ok same = cc

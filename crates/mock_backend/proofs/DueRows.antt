@@ -21,6 +21,7 @@ use Rattle.step_model.specs.Evaluation.{value_of, values_of}
 use Rattle.step_model.specs.Settling as settling
 use Rattle.step_model.specs.Silent as silent
 use Rattle.trace_out.specs.Outcome.{Due}
+use Rattle.trace_out.specs.declared.status.Status.{Status}
 use Rattle.trace_out.specs.declared.status.Status.TheVariants as status
 use Rattle.machine_model.specs.Answers.{ran, mocked}
 use Rattle.machine_model.specs.Mock.{move, moves}
@@ -56,19 +57,34 @@ one_move_more : mocks_in 1 "(eio 1 (main (trace \"a\")))" ≡ record { text = co
 unfolding mocks_in
 one_move_more = refl
 
+abbrev ends : (text : String) → Status → Due
+ends text end = record { text = codes text; status = end }
+
+main_ends_with_an_exception : mocks_in 10 "(eio 1 (main (raise \"no\")))" ≡ ends "!Failure \"no\"\n" status.Raised
+unfolding mocks_in
+main_ends_with_an_exception = refl
+
+main_waits_for_nobody : mocks_in 10 "(eio 1 (main (trace \"a\") (await-cancel)))" ≡ ends "+a\n!Deadlock_detected\n" status.Deadlock
+unfolding mocks_in
+main_waits_for_nobody = refl
+
+a_handler_ends_well : mocks_in 10 "(eio 1 (main (try ((raise \"no\")) why ((trace why)))))" ≡ ok "+Failure \"no\"\n"
+unfolding mocks_in
+a_handler_ends_well = refl
+
 -- the first of several refusals
-no_tree : mocks_in 10 "(eio 1 (main (let x 1)) (domain)" ≡ refused "!Refused Unclosed at 0\n"
+no_tree : mocks_in 10 "(eio 1 (main (sleep 1)) (domain)" ≡ refused "!Refused Unclosed at 0\n"
 unfolding mocks_in
 no_tree = refl
 
-no_script : mocks_in 10 "(eio 1 (main (let x 1) (foo)) (domain))" ≡ refused "!Refused Shape at 23\n"
+no_script : mocks_in 10 "(eio 1 (main (sleep 1) (foo)) (domain))" ≡ refused "!Refused Shape at 23\n"
 unfolding mocks_in
 no_script = refl
 
-a_further_body : mocks_in 10 "(eio 1 (main (let x 1)) (domain))" ≡ refused "!Refused DomainOnly at 24\n"
+a_further_body : mocks_in 10 "(eio 1 (main (sleep 1)) (domain))" ≡ refused "!Refused DomainOnly at 24\n"
 unfolding mocks_in
 a_further_body = refl
 
-an_unbuilt_form : mocks_in 10 "(eio 1 (main (trace \"a\") (let x 1)))" ≡ refused "!Refused Unbuilt at 25\n"
+an_unbuilt_form : mocks_in 10 "(eio 1 (main (trace \"a\") (sleep 1)))" ≡ refused "!Refused Unbuilt at 25\n"
 unfolding mocks_in
 an_unbuilt_form = refl

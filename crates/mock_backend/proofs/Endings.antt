@@ -1,18 +1,16 @@
 -- How a run ends, by what is asked of its domain.
-use Rattle.std.proofs.Common.{◌≡◌, Bool, true, false, Option, Some, None, refl, ap, sym, ◌∙◌}
+use Rattle.std.proofs.Common.{◌≡◌, ℕ, List, [], Bool, true, false, Option, Some, None, refl, ap, sym, ◌∙◌}
 use Rattle.std.specs.Prelude.{is_some}
 use Rattle.std.proofs.lemmas.Bool.{false≢true}
 use Rattle.eio_value.specs.declared.raised.Outcome.{Outcome}
-use Rattle.eio_value.specs.declared.raised.Outcome.TheVariants as outcome
-use Rattle.eio_value.specs.declared.raised.Raised.{Raised}
 use Rattle.script_model.specs.Scripts.{Script}
 use Rattle.machine_model.specs.declared.Ending.{Ending}
 use Rattle.machine_model.specs.declared.Ending.TheVariants as ending
-use Rattle.machine_model.specs.Domain.{Ready, Parked, Ended, Standing, DomainState, fiber_at}
 use Rattle.machine_model.specs.Mock.{Mock, Moved, move, can_move}
 use Rattle.machine_model.specs.Trace.{body_end, ending_by, ending_in}
+use Rattle.domain_core.specs.Keeping.{KeptDomain}
+use Rattle.domain_core.specs.Turns.{StandsFor}
 use Rattle.run_laws.proofs.Moves.{moves_where_something_is_left}
-use Rattle.domain_core.specs.FirstStates.{IsFirstState, IsFirstStanding}
 
 module _ (script : Script) (m : Mock) where
   by_move : Option Moved → Ending
@@ -49,18 +47,6 @@ module _ (script : Script) (m : Mock) where
   pub still_is : (came : Option Outcome) → m.local.halted ≡ false → can_move m.local ≡ false → body_end m.local ≡ came → ending_by came ≡ ending_in script m
   still_is came going still body = sym (going_is going ∙ (none_is (move script m) (moves_where_something_is_left script m ∙ still) ∙ ap ending_by body))
 
--- no body of the forms that are built ends with an exception
-pub never_raised : (l : DomainState) → IsFirstState l → (raised : Raised) → body_end l ≡ Some (outcome.Err raised) → ⊥
-never_raised l first raised is = by (fiber_at l.fibers 0).standing (first.stand 0) is
-  where
-    none_some : {A : Type 0} (x : A) → None ≡ Some x → ⊥
-    none_some x e = cc
-
-    ok_err : {A : Type 0} (x y : A) → ◌≡◌ {A = Option A} (Some x) (Some y) → x ≡ y
-    ok_err x y e = cc
-
-    by : (standing : Standing) → IsFirstStanding standing → ◌≡◌ {A = Option Outcome} (elim standing [ Ended it ↦ Some it | Ready next ↦ None | Parked wait ↦ None ]) (Some (outcome.Err raised)) → ⊥
-    by (Ready next) may e = none_some _ e
-    by (Parked wait) may e = none_some _ e
-    by (Ended (outcome.Ok it)) may e = cc
-    by (Ended (outcome.Err other)) may e = absurd may
+-- while no limit was met, no timer stands
+pub sleeps : (script : Script) (texts : List (List ℕ)) (kept : KeptDomain) (m : Mock) → StandsFor script texts kept m.local → m.local.halted ≡ false → m.local.timers.standing ≡ []
+sleeps script texts kept m stands going = (stands.well going).sound.sleeps

@@ -10,7 +10,7 @@ use Rattle.std.proofs.lemmas.Grind.{flat_map-append}
 use Rattle.std.proofs.lemmas.List.Elements.{All-from_recursion}
 use Rattle.eio_value.specs.declared.value.TextId.{TextId}
 use Rattle.eio_value.specs.Table.{HasText}
-use Rattle.script_lang.specs.Texted.{IsAmong, HasBodyTexts}
+use Rattle.script_lang.specs.Texted.{IsAmong}
 use Rattle.script_model.specs.Opening.{opening_texts}
 use Rattle.script_model.specs.Scripts.{Script}
 use Rattle.script_model.specs.Syntax.{Block, Begins, Done}
@@ -22,20 +22,24 @@ use Rattle.machine_model.specs.Domain.{DomainState}
 use Rattle.machine_model.specs.Labels.{Label, Inner, Called, Struck, Mocked, Took}
 use Rattle.machine_model.specs.Mock.{Mock, Moved, move, moves, opening, opening_domain, first_body}
 use Rattle.machine_model.specs.Moves.{after, line_of}
-use Rattle.machine_model.specs.Runs.{Fits}
+use Rattle.machine_model.specs.Runs.{Fits, Noted}
 use Rattle.machine_model.specs.Trace.{run, trace, written_by, last_after}
 use Rattle.fiber_step.specs.Throwing.{IsGrown}
 use Rattle.domain_core.specs.declared.turn.Turn.TheVariants as turn
 use Rattle.domain_core.specs.Objects.{AreFor}
 use Rattle.domain_core.specs.Keeping.{KeptDomain}
-use Rattle.domain_core.specs.Turns.{StandsFor, Starts, Came, MovesTo, Turns, body_of}
+use Rattle.domain_core.specs.Turns.{StandsFor, Starts, Came, MovesTo, Turns}
+use Rattle.domain_laws.specs.Laws.{body_of}
+use Rattle.text_laws.specs.DomainLaws.{MovesTexted}
+use Rattle.text_laws.proofs.Moving.{known_have_texts}
+use Rattle.well_laws.specs.WellStates.{IsRunnable, StandsWell}
+use Rattle.well_laws.proofs.Standing.{moves_tell_known}
 use Rattle.mock_backend.specs.declared.fault.RunFault.{RunFault}
 use Rattle.mock_backend.specs.declared.local.Local.{Local}
 use Rattle.mock_backend.specs.Faults.{HasRunCause, RoseAtFault, WritesText}
 use Rattle.mock_backend.specs.declared.fault.RunFault.TheVariants as fault
 use Rattle.mock_backend.specs.Objects.{Calls, Strikes, Asks, Receives, Learns, one_has_waiter, terms_of, is_open_in}
 use Rattle.mock_backend.proofs.Runs.{inner_moved, inner_line, inner_next, inner_stamp, own_move_is, idle_move_is, halted_move_is, moves_none, moves_zero, moves_some}
-use Rattle.mock_backend.proofs.Tracing.{line_can_be_written}
 
 -- ## The next move
 
@@ -79,13 +83,17 @@ module _ (script : Script) (line : Line) (old_texts new_texts : List (List ℕ))
         stamp = inner_stamp script m;
       })
 
-  -- and its lines of the trace can be written
-  pub turn_can_trace : HasBodyTexts script → length script.texts ≤ length new_texts → (names : List TextId) → (l : DomainState) → StandsFor script old_texts old l → CanTrace new_texts names line.did
-  turn_can_trace has within names l stands = (
+  -- and its lines of the trace can be written: what they show is known, and the table is the one with which the script starts
+  pub turn_can_trace : IsRunnable script → (names : List TextId) → names ≡ script.names → (l : DomainState) → StandsFor script old_texts old l → CanTrace new_texts names line.did
+  turn_can_trace runnable names same l stands = (
       let made = makes l stands in
       let own = came_inner l line.stamp made.2.label before behind made.2.came in
-      let told : line ≡ line_of script l line.stamp Inner = made.2.moves.told ∙ ap (λ (label : Label). line_of script l line.stamp label) own.0 in
-      subst (λ (it : Line). CanTrace new_texts names it.did) (sym told) (line_can_be_written script has new_texts old_texts names within old l stands line.stamp))
+      let well : StandsWell script l = stands.well made.2.moves.runs in
+      let noted : Noted = record { line = line; label = made.2.label; away = None; from = 0 } in
+      let tells : MovesTexted script l noted made.0 = moves_tell_known script l made.0 noted runnable well own.0 made.2.moves in
+      let table : opening_texts script ≡ new_texts = sym well.texted.table ∙ (sym tells.same ∙ made.1.mirrors.texts) in
+      subst (λ (t : List (List ℕ)). CanTrace t names line.did) table
+      (subst (λ (ids : List TextId). CanTrace (opening_texts script) ids line.did) (sym same) (known_have_texts.lines script line.did tells.call)))
 
 -- the names of a script stand in a table that has its texts
 pub names_stand : (n : ℕ) (texts : List (List ℕ)) (names : List TextId) → n ≤ length texts → Each (IsAmong n) names → All (HasText texts) names

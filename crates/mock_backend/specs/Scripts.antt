@@ -1,13 +1,12 @@
--- The scripts that are run.
-use Rattle.std.specs.Prelude.{◌≡◌, length}
-use Rattle.script_lang.specs.Texted.{HasBodyTexts}
-use Rattle.script_laws.specs.FirstForms.{HasFirstForms}
-use Rattle.script_laws.specs.Soundness.{IsSound}
+-- Scripts that are run.
+use Rattle.std.specs.Prelude.{ℕ, List}
+use Rattle.domain_core.specs.Keeping.{KeptDomain}
+use Rattle.domain_core.specs.Turns.{StandsForSome}
 use Rattle.script_model.specs.Scripts.{Script}
+use Rattle.well_laws.specs.WellStates.{IsRunnable}
 
--- what every script has that `mock` runs: one body, of forms that are built, whose texts stand in the script's table
-pub record IsRun (script : Script) : Type 0 where
-  pub sound : IsSound script
-  pub alone : length script.bodies ≡ 1
-  pub built : HasFirstForms script
-  pub texts : HasBodyTexts script
+-- a run of some script has come to this domain
+pub record IsOfRun (texts : List (List ℕ)) (kept : KeptDomain) : Type 0 where
+  pub script : Script
+  pub runnable : IsRunnable script
+  pub stands : StandsForSome script texts kept

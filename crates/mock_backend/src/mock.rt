@@ -4,6 +4,7 @@
 ghost use Rattle.std.specs.Prelude.{◌≡◌, ◌≢◌, ◌<◌, ◌≤◌, IfSome};
 ghost use Rattle.machine_model.specs.Answers.{ended};
 ghost use Rattle.trace_out.specs.Outcome.{ReadsFor, WritesFor, HasItsCause};
+ghost use Rattle.mock_backend.specs.Causes.{ComesExactlyOf, EndsRaised, IsStuck, RunsTo};
 ghost use Rattle.mock_backend.specs.Due.{answer_to, due};
 
 use crate::fault::RunFault;
@@ -30,7 +31,8 @@ fn to_status(ending: Ending) -> Status
 /// and returns how it ended. It waits for nobody and always returns.
 ///
 /// At most 262,145 bytes are read, one more than an accepted input has. `Limit` comes where more fibers or contexts would be live than may
-/// be; else `OutOfSteps` exactly where `steps` moves were made and one more is possible. `ReadFault` comes where the source failed, and
+/// be; else `OutOfSteps` exactly where `steps` moves were made and one more is possible; else nothing is left to be done, and `Raised` comes
+/// where main ended with an exception, `Deadlock` where main hasn't ended. `ReadFault` comes where the source failed, and
 /// then nothing was written. `WriteFault` comes where the sink failed, and `NoMemory` where memory was refused: then a front of the text
 /// was written.
 pub fn mock_run<S: Source, K: Sink>(
@@ -52,9 +54,12 @@ pub fn mock_run<S: Source, K: Sink>(
     ensures source_later { S.faults source.old ≤ S.faults source.new }
     ensures sink_later { K.faults sink.old ≤ K.faults sink.new }
 
-    // No words are read here, and no form that is built raises.
+    // No words are read here.
     ensures asked { result ≢ Status.Usage }
-    ensures calm { result ≢ Status.Raised }
+
+    // The two endings of a run that comes to rest otherwise than well, each with its cause.
+    ensures raised { IfSome (S.left source.old) (λ bytes. ComesExactlyOf (RunsTo EndsRaised steps bytes) Status.Raised result) }
+    ensures deadlock { IfSome (S.left source.old) (λ bytes. ComesExactlyOf (RunsTo IsStuck steps bytes) Status.Deadlock result) }
 {
     let input = match read_input(alloc, source) {
         Ok(input) => input,

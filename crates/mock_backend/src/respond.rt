@@ -1,57 +1,18 @@
 //! The answer to an input: the trace of the script that it is with the line behind it, or the line of its refusal.
 //!
 //! [`respond`] says that the text and the ending are the definition's answer to these bytes.
-ghost use Rattle.std.specs.Prelude.{◌≡◌, ◌≢◌, ◌<◌, ◌≤◌, IfOk};
-ghost use Rattle.machine_model.specs.Answers.{ran};
-ghost use Rattle.machine_model.specs.Mock.{Mock};
-ghost use Rattle.machine_model.specs.Trace as model;
+ghost use Rattle.std.specs.Prelude.{◌≡◌, ◌<◌, ◌≤◌, IfOk};
 ghost use Rattle.script_input.specs.Refusals.{line_of};
 ghost use Rattle.mock_backend.specs.Due.{answer_to};
 ghost use Rattle.mock_backend.specs.Faults.{HasRunCause, WritesText};
-ghost use Rattle.mock_backend.specs.Scripts.{IsRun};
 
 use crate::fault::RunFault;
 use crate::run::run_script;
 use crate::script::mocked_script;
 use machine_model::Ending;
 use script_input::{InputFault, Refusal, refusal_line};
-use script_lang::Script;
 use std::alloc::Global;
 use trace_out::{Sink, write_all};
-
-/// The line behind the trace; none where the run came to its end. No form that is built raises.
-fn last_line(ending: Ending) -> &'static [u8]
-    requires { ending ≢ Ending.Raised }
-    ensures { (m : Mock) → result.now ≡ model.last_line ending m }
-{
-    match ending {
-        Ending::Ok | Ending::Refused => b"",
-        Ending::Raised => unreachable!(),
-        Ending::Deadlock => b"!Deadlock_detected\n",
-        Ending::OutOfSteps => b"!Out_of_steps\n",
-        Ending::Limit => b"!Limit\n",
-    }
-}
-
-/// Runs a script, writes its trace and the line behind it, and returns how it ended.
-fn answer_script<K: Sink>(
-    alloc: Global,
-    script: &Script,
-    sink: &mut K,
-    steps: u32,
-) -> Result<Ending, RunFault>
-    requires some { 0 < steps }
-    requires most { steps ≤ 1000000 }
-    requires script { IsRun script.now }
-    ensures ending { IfOk result (λ ending. ending ≡ (ran script.now steps).ending) }
-    ensures calm { IfOk result (λ ending. ending ≢ Ending.Raised) }
-    ensures text { WritesText (K.held sink.old) (K.held sink.new) (ran script.now steps).text result }
-    ensures cause { HasRunCause (K.faults sink.old) (K.faults sink.new) result }
-{
-    let ending = run_script(alloc, script, sink, steps)?;
-    write_all(sink, last_line(ending))?;
-    Ok(ending)
-}
 
 /// Writes the line of a refusal.
 fn answer_refusal<K: Sink>(
@@ -78,12 +39,11 @@ pub(crate) fn respond<K: Sink>(
     requires some { 0 < steps }
     requires most { steps ≤ 1000000 }
     ensures ending { IfOk result (λ ending. ending ≡ (answer_to steps input.now).ending) }
-    ensures calm { IfOk result (λ ending. ending ≢ Ending.Raised) }
     ensures text { WritesText (K.held sink.old) (K.held sink.new) (answer_to steps input.now).text result }
     ensures cause { HasRunCause (K.faults sink.old) (K.faults sink.new) result }
 {
     match mocked_script(alloc, input) {
-        Ok(script) => answer_script(alloc, &script, sink, steps),
+        Ok(script) => run_script(alloc, &script, sink, steps),
         Err(InputFault::Refused(refusal)) => answer_refusal(alloc, refusal, sink),
         Err(InputFault::NoMemory) => Err(RunFault::NoMemory),
     }

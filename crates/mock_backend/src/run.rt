@@ -1,29 +1,33 @@
-//! A run of a script on one mocked domain, whose trace is written as it comes.
+//! A run of a script on one mocked domain, whose trace is written as it comes, and the line behind it.
 //!
 //! The loop keeps: what was written is the trace of the moves made so far, and the moves that are left lead from the state that the domain
-//! stands for where the whole run leads. [`run_script`] says what was written, and how the run ended.
-ghost use Rattle.std.specs.Prelude.{◌≡◌, ◌≢◌, ◌<◌, ◌≤◌, ℕ, List, IfOk};
+//! stands for where the whole run leads. [`run_script`] says what was written, how the run ended, and why.
+ghost use Rattle.std.specs.Prelude.{◌≡◌, ◌<◌, ◌≤◌, ◌↔◌, ℕ, List, IfOk, IfSome, OnOk};
+ghost use Rattle.fiber_step.specs.Settling.{HasTextsOfOutcome};
+ghost use Rattle.machine_model.specs.Answers.{ran};
 ghost use Rattle.machine_model.specs.Mock.{Mock};
-ghost use Rattle.machine_model.specs.Trace.{ending_in, run, trace};
+ghost use Rattle.machine_model.specs.Trace as model;
+ghost use Rattle.machine_model.specs.Trace.{body_end, ending_in, run};
 ghost use Rattle.script_model.specs.Scripts.{Script as Read};
 ghost use Rattle.domain_core.specs.Turns.{StandsFor};
+ghost use Rattle.well_laws.specs.WellStates.{IsRunnable};
+ghost use Rattle.mock_backend.specs.Causes.{EndsRaised, IsStuck};
 ghost use Rattle.mock_backend.specs.Faults.{HasRunCause, WritesText};
-ghost use Rattle.mock_backend.specs.Scripts.{IsRun};
+ghost use Rattle.mock_backend.specs.Scripts.{IsOfRun};
 
 use crate::fault::RunFault;
 use crate::local::Local;
 use crate::trace::write_line;
 use domain_core::{Domain, Turn};
-use eio_value::Outcome;
+use eio_value::{NoMemory, Outcome, Texts, show_raised};
 use machine_model::Ending;
 use script_lang::Script;
 use std::alloc::Global;
-use trace_out::Sink;
+use trace_out::{Sink, write_all};
 
-/// How a run ends that has come to this domain. No form that is built raises.
+/// How a run ends that has come to this domain.
 fn ending_of(domain: &Domain) -> Ending
-    ensures ending { (script : Read) (texts : List (List ℕ)) (m : Mock) → StandsFor script texts domain.now m.local → result ≡ ending_in script m }
-    ensures calm { (script : Read) (texts : List (List ℕ)) (m : Mock) → StandsFor script texts domain.now m.local → result ≢ Ending.Raised }
+    ensures { (script : Read) (texts : List (List ℕ)) (m : Mock) → StandsFor script texts domain.now m.local → result ≡ ending_in script m }
 {
     if domain.met_limit() {
         return Ending::Limit;
@@ -38,7 +42,55 @@ fn ending_of(domain: &Domain) -> Ending
     }
 }
 
-/// Runs a script for at most `steps` moves, writes its trace, and returns how it ended.
+/// The line behind the trace of a run that ended so and whose body came to this; none where the run came to its end.
+fn last_line(
+    texts: &Texts,
+    ending: Ending,
+    came: Option<Outcome>,
+    line: &mut Vec<u8>,
+) -> Result<(), NoMemory>
+    requires texts { ending ≡ Ending.Raised → IfSome came (HasTextsOfOutcome texts.now) }
+    ensures { OnOk result ((m : Mock) → m.local.texts ≡ texts.now → body_end m.local ≡ came → line.new.items ≡ model.last_line ending m) }
+{
+    line.clear();
+    match ending {
+        Ending::Ok | Ending::Refused => (),
+        Ending::Raised => {
+            if let Some(Outcome::Err(raised)) = came {
+                line.push(b'!')?;
+                show_raised(texts, &raised, line)?;
+                line.push(b'\n')?;
+            }
+        }
+        Ending::Deadlock => line.extend_from_slice(b"!Deadlock_detected\n")?,
+        Ending::OutOfSteps => line.extend_from_slice(b"!Out_of_steps\n")?,
+        Ending::Limit => line.extend_from_slice(b"!Limit\n")?,
+    }
+    Ok(())
+}
+
+/// Writes the line behind the trace of a run that has come to this domain, and returns how it ended.
+fn end_run<K: Sink>(
+    domain: &Domain,
+    texts: &Texts,
+    sink: &mut K,
+    buffer: &mut Vec<u8>,
+) -> Result<Ending, RunFault>
+    requires come { IsOfRun texts.now domain.now }
+    ensures ending { IfOk result (λ ending. (script : Read) (m : Mock) → StandsFor script texts.now domain.now m.local → ending ≡ ending_in script m) }
+    ensures text { (script : Read) (m : Mock) → StandsFor script texts.now domain.now m.local → WritesText (K.held sink.old) (K.held sink.new) (model.last_line (ending_in script m) m) result }
+    ensures cause { HasRunCause (K.faults sink.old) (K.faults sink.new) result }
+{
+    let ending = ending_of(domain);
+    last_line(texts, ending, domain.body_end(), buffer)?;
+    write_all(sink, buffer)?;
+    Ok(ending)
+}
+
+/// Runs a script for at most `steps` moves, writes its trace and the line behind it, and returns how it ended.
+///
+/// It ends with an exception, or in a deadlock, exactly where nothing is left to be done and no limit was met, and main has ended with an
+/// exception, or hasn't ended.
 pub(crate) fn run_script<K: Sink>(
     alloc: Global,
     script: &Script,
@@ -47,10 +99,11 @@ pub(crate) fn run_script<K: Sink>(
 ) -> Result<Ending, RunFault>
     requires some { 0 < steps }
     requires most { steps ≤ 1000000 }
-    requires script { IsRun script.now }
-    ensures ending { IfOk result (λ ending. ending ≡ ending_in script.now (run script.now steps).last) }
-    ensures calm { IfOk result (λ ending. ending ≢ Ending.Raised) }
-    ensures text { WritesText (K.held sink.old) (K.held sink.new) (trace script.now (run script.now steps).moves) result }
+    requires runnable { IsRunnable script.now }
+    ensures ending { IfOk result (λ ending. ending ≡ (ran script.now steps).ending) }
+    ensures text { WritesText (K.held sink.old) (K.held sink.new) (ran script.now steps).text result }
+    ensures raised { IfOk result (λ ending. (ending ≡ Ending.Raised) ↔ EndsRaised (run script.now steps).last.local) }
+    ensures deadlock { IfOk result (λ ending. (ending ≡ Ending.Deadlock) ↔ IsStuck (run script.now steps).last.local) }
     ensures cause { HasRunCause (K.faults sink.old) (K.faults sink.new) result }
 {
     let mut texts = script.texts_of(alloc)?;
@@ -60,8 +113,10 @@ pub(crate) fn run_script<K: Sink>(
     'running: for made in 0..steps {
         match domain.turn(script, &mut texts, &mut objects)? {
             Turn::Moved(line) => write_line(sink, &texts, script.names(), &line, &mut buffer)?,
-            Turn::Idle | Turn::Spent | Turn::Halted => return Ok(ending_of(&domain)),
+            Turn::Idle | Turn::Spent | Turn::Halted => {
+                return end_run(&domain, &texts, sink, &mut buffer);
+            }
         }
     }
-    Ok(ending_of(&domain))
+    end_run(&domain, &texts, sink, &mut buffer)
 }

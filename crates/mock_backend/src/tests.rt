@@ -69,13 +69,35 @@ fn worked_scripts(rt: HostRuntime) -> Result<(), Fail> {
             "+in\n+out!\n",
             Status::Ok,
         ),
+        // Main ends with an exception, and without one.
+        (
+            "(eio 1 (main (raise \"no\")))",
+            "!Failure \"no\"\n",
+            Status::Raised,
+        ),
+        (
+            "(eio 1 (main (switch s (fork s (yield) (raise \"one\")) (fork s (try ((await-cancel)) why ((raise \"two\")))))))",
+            "!Multiple [Failure \"one\"; Failure \"two\"]\n",
+            Status::Raised,
+        ),
+        (
+            "(eio 1 (main (try ((raise \"no\")) why ((trace why)))))",
+            "+Failure \"no\"\n",
+            Status::Ok,
+        ),
+        // Nobody cancels main.
+        (
+            "(eio 1 (main (trace \"a\") (await-cancel)))",
+            "+a\n!Deadlock_detected\n",
+            Status::Deadlock,
+        ),
         (
             "(eio 1 (main (fork s)))",
             "!Refused Name at 19\n",
             Status::Refused,
         ),
         (
-            "(eio 1 (main (check)))",
+            "(eio 1 (main (sleep 1)))",
             "!Refused Unbuilt at 13\n",
             Status::Refused,
         ),

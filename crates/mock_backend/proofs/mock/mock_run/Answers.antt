@@ -3,7 +3,8 @@ use Rattle.std.specs.Io.KnownBytes.{Appends}
 use Rattle.trace_out.specs.Causes.{AppendsFront}
 use Rattle.trace_out.proofs.Consumed.{has_read_through}
 use Rattle.mock_backend.specs.Due.{answer_to}
-use Rattle.mock_backend.proofs.Answered.{front_of_answer, reads_ended, status_asked, status_calm, writes_whole}
+use Rattle.mock_backend.proofs.Answered.{front_of_answer, reads_ended, status_asked, writes_whole}
+use Rattle.mock_backend.proofs.EndCauses.{raised_comes, stuck_comes}
 use Rattle.mock_backend.proofs.mock.mock_run.Goals as goal
 
 pub returns-in-Ok-respond-clause-read : goal.returns-in-Ok-respond-clause-read
@@ -20,8 +21,15 @@ returns-in-Ok-respond-clause-text g c =
 pub returns-in-Ok-respond-clause-asked : goal.returns-in-Ok-respond-clause-asked
 returns-in-Ok-respond-clause-asked g c = rw c.to_status.ensures (status_asked _)
 
-pub returns-in-Ok-respond-clause-calm : goal.returns-in-Ok-respond-clause-calm
-returns-in-Ok-respond-clause-calm g c = rw c.to_status.ensures (status_calm _ c.in-Ok-respond.ensures.calm)
+pub returns-in-Ok-respond-clause-raised : goal.returns-in-Ok-respond-clause-raised
+returns-in-Ok-respond-clause-raised g c =
+    rw c.to_status.ensures
+    (raised_comes _ _ _ _ _ c.in-Ok.ensures.input (c.in-Ok-respond.ensures.ending ∙ ap (λ bytes. (answer_to c.args.steps bytes).ending) c.deref.ensures.value))
+
+pub returns-in-Ok-respond-clause-deadlock : goal.returns-in-Ok-respond-clause-deadlock
+returns-in-Ok-respond-clause-deadlock g c =
+    rw c.to_status.ensures
+    (stuck_comes _ _ _ _ _ c.in-Ok.ensures.input (c.in-Ok-respond.ensures.ending ∙ ap (λ bytes. (answer_to c.args.steps bytes).ending) c.deref.ensures.value))
 
 pub returns-in-Err-WriteFault-clause-read : goal.returns-in-Err-WriteFault-clause-read
 returns-in-Err-WriteFault-clause-read g c = has_read_through _ _ _ c.in-Ok.ensures.input

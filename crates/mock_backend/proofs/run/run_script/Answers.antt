@@ -1,11 +1,12 @@
-use Rattle.std.proofs.Common.{◌∙◌, inl, inr, ap, subst, sym, arith}
+use Rattle.std.proofs.Common.{inl, inr, subst, arith}
 use Rattle.std.proofs.lemmas.Result.{err_from_is_err_and}
 use Rattle.trace_out.proofs.Appended.{front_none}
-use Rattle.machine_model.specs.Trace.{ending_in}
 use Rattle.domain_core.specs.declared.turn.Turn.{Turn}
 use Rattle.domain_core.specs.declared.turn.Turn.TheVariants as turn
 use Rattle.domain_core.specs.Turns.{Turns}
 use Rattle.mock_backend.specs.Objects.{Calls, Strikes, Asks, Receives, Learns}
+use Rattle.mock_backend.proofs.Answered.{front_of_trace}
+use Rattle.mock_backend.proofs.Whole.{cause_behind, whole_ending, whole_raised, whole_stuck, whole_written}
 use Rattle.mock_backend.proofs.Running.{IsMoved, IsWhole, cause_before, grown_has, objects_fit, part_front, part_front_moves, part_moves, part_opens, turn_can_trace, turn_moves, whole_budget, whole_halted, whole_idle, whole_spent, writes_failed}
 use Rattle.mock_backend.proofs.run.run_script.Goals as goal
 use Rattle.mock_backend.proofs.run.run_script.Given.{Over}
@@ -24,7 +25,7 @@ running-init g c = record {
 
 pub returns-in_err-line-clause-text : goal.returns-in_err-line-clause-text
 returns-in_err-line-clause-text g c =
-    writes_failed _ _ _ _ c.from_residual-in_err-line.ensures.0 (part_front _ _ _ _ _ _ _ c.running.invariant.part)
+    writes_failed _ _ _ _ c.from_residual-in_err-line.ensures.0 (front_of_trace _ _ _ _ (part_front _ _ _ _ _ _ _ c.running.invariant.part))
 
 -- what the turn did, where it made a line
 made_line : (g : Over) (c : In-Moved g) → Turns Calls Strikes Receives Asks Learns c.args.script.now (turn.Moved c.in-Moved.line) c.running.texts c.turn.new.texts c.running.domain c.turn.new.self c.running.objects c.turn.new.objects
@@ -41,13 +42,13 @@ pub write_line-requires-clause-line : goal.write_line-requires-clause-line
 write_line-requires-clause-line g c =
     let it = (goal.at.write_line-requires-clause-line g c).In-Moved in
     turn_can_trace c.args.script.now c.in-Moved.line c.running.texts c.turn.new.texts c.running.domain c.turn.new.self c.running.objects c.turn.new.objects (made_line g it).5
-    c.requires.script.texts (grown_has _ _ _ (made_line g it).4 c.running.invariant.own) _ c.running.invariant.part.state.local c.running.invariant.part.stands
+    c.requires.runnable _ c.names.ensures.names c.running.invariant.part.state.local c.running.invariant.part.stands
 
 pub returns-in_err-write_line-in-Moved-clause-text : goal.returns-in_err-write_line-in-Moved-clause-text
 returns-in_err-write_line-in-Moved-clause-text g c =
     let it = (goal.at.returns-in_err-write_line-in-Moved-clause-text g c).In-Moved in
     writes_failed _ _ _ _ c.from_residual-in_err-write_line-in-Moved.ensures.0
-    (part_front_moves _ _ _ _ _ _ _ _ _ _ c.running.invariant.part (omega arith) _ (moved_on g it) _ c.names.ensures.names c.in_err-write_line-in-Moved.ensures.text)
+    (front_of_trace _ _ _ _ (part_front_moves _ _ _ _ _ _ _ _ _ _ c.running.invariant.part (omega arith) _ (moved_on g it) _ c.names.ensures.names c.in_err-write_line-in-Moved.ensures.text))
 
 pub returns-in_err-write_line-in-Moved-clause-cause : goal.returns-in_err-write_line-in-Moved-clause-cause
 returns-in_err-write_line-in-Moved-clause-cause g c =
@@ -65,18 +66,21 @@ still g c =
       | inr (inr is) ↦ whole_halted _ _ _ _ _ _ _ _ _ _ _ part (subst turned is c.in_ok-line.ensures.turns)
     ]
 
-pub returns-in-Idle-clause-ending : goal.returns-in-Idle-clause-ending
-returns-in-Idle-clause-ending g c =
-    let whole = still g (goal.at.returns-in-Idle-clause-ending g c).In-Idle in
-    c.ending_of.ensures.ending c.args.script.now c.turn.new.texts whole.state whole.stands ∙ ap (ending_in c.args.script.now) (sym whole.last)
+pub end_run-requires : goal.end_run-requires
+end_run-requires g c =
+    let whole = still g (goal.at.end_run-requires g c).In-Idle in
+    record { come = record { script = c.args.script.now; runnable = c.requires.runnable; stands = (whole.state.local, whole.stands) } }
 
-pub returns-in-Idle-clause-calm : goal.returns-in-Idle-clause-calm
-returns-in-Idle-clause-calm g c =
-    let whole = still g (goal.at.returns-in-Idle-clause-calm g c).In-Idle in
-    c.ending_of.ensures.calm c.args.script.now c.turn.new.texts whole.state whole.stands
-
-pub returns-in-Idle-clause-text : goal.returns-in-Idle-clause-text
-returns-in-Idle-clause-text g c = (still g (goal.at.returns-in-Idle-clause-text g c).In-Idle).appended
+pub returns-in-Idle : goal.returns-in-Idle
+returns-in-Idle g c =
+    let whole = still g (goal.at.returns-in-Idle g c).In-Idle in
+    record {
+      ending = whole_ending _ _ _ _ _ _ whole _ c.end_run.ensures.ending;
+      text = whole_written _ _ _ _ _ _ whole _ _ c.end_run.ensures.text;
+      raised = whole_raised _ _ _ _ _ _ whole _ c.end_run.ensures.ending;
+      deadlock = whole_stuck _ _ _ _ _ _ whole _ c.end_run.ensures.ending;
+      cause = cause_behind _ _ _ _ c.running.invariant.later c.end_run.ensures.cause;
+    }
 
 pub running-preserved : goal.running-preserved
 running-preserved g c =
@@ -90,15 +94,18 @@ running-preserved g c =
       later = omega (arith, c.running.invariant.later, c.in_ok-write_line-in-Moved.ensures.cause.later);
     }
 
-pub returns-clause-ending : goal.returns-clause-ending
-returns-clause-ending g c =
-    let whole = whole_spent _ _ _ _ _ _ _ c.running.invariant.part (omega arith) in
-    c.ending_of-2.ensures.ending c.args.script.now c.running.texts whole.state whole.stands ∙ ap (ending_in c.args.script.now) (sym whole.last)
+pub end_run-requires-2 : goal.end_run-requires-2
+end_run-requires-2 g c =
+    let part = c.running.invariant.part in
+    record { come = record { script = c.args.script.now; runnable = c.requires.runnable; stands = (part.state.local, part.stands) } }
 
-pub returns-clause-calm : goal.returns-clause-calm
-returns-clause-calm g c =
+pub returns : goal.returns
+returns g c =
     let whole = whole_spent _ _ _ _ _ _ _ c.running.invariant.part (omega arith) in
-    c.ending_of-2.ensures.calm c.args.script.now c.running.texts whole.state whole.stands
-
-pub returns-clause-text : goal.returns-clause-text
-returns-clause-text g c = (whole_spent _ _ _ _ _ _ _ c.running.invariant.part (omega arith)).appended
+    record {
+      ending = whole_ending _ _ _ _ _ _ whole _ c.end_run-2.ensures.ending;
+      text = whole_written _ _ _ _ _ _ whole _ _ c.end_run-2.ensures.text;
+      raised = whole_raised _ _ _ _ _ _ whole _ c.end_run-2.ensures.ending;
+      deadlock = whole_stuck _ _ _ _ _ _ whole _ c.end_run-2.ensures.ending;
+      cause = cause_behind _ _ _ _ c.running.invariant.later c.end_run-2.ensures.cause;
+    }
