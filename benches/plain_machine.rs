@@ -1,6 +1,8 @@
 //! A small machine in plain Rust, beside which benches of scripts stand: fibers, contexts, switches and groups, with the forms that those scripts have.
 
 use std::collections::{BTreeSet, HashMap, VecDeque};
+use std::hint::black_box;
+use std::time::{Duration, Instant};
 
 /// A block, by its place in the script.
 pub type Block = usize;
@@ -616,4 +618,34 @@ enum Began {
     Silent,
     Came(Outcome),
     Calls(Call),
+}
+
+/// How often each script is run; the least time counts.
+const ROUNDS: u32 = 20;
+
+/// How long a script took to its end once it had made so many moves, and how many moves that were.
+fn run(script: &Script, before: u64) -> (Duration, u64) {
+    let mut machine = Machine::new(script);
+    for _ in 0..before {
+        machine.turn();
+    }
+    let begun = Instant::now();
+    let mut moves = 0;
+    while machine.turn() {
+        moves += 1;
+    }
+    let took = begun.elapsed();
+    black_box(&machine.end);
+    (took, moves)
+}
+
+/// Prints the least time of a script behind so many moves, for each of these.
+pub fn print_timed(script: &Script, before: u64, each: u64, named: &str) {
+    let (mut least, mut moves) = (Duration::MAX, 0);
+    for _ in 0..ROUNDS {
+        let (took, made) = run(black_box(script), before);
+        least = least.min(took);
+        moves = made;
+    }
+    println!("plain:  {each} {named}s: {} ns a {named}; {moves} moves", least.as_nanos() / u128::from(each));
 }

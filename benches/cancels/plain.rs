@@ -6,11 +6,7 @@
 mod plain_machine;
 
 use plain_machine::Statement::{AwaitCancel, Cancel, Fork, Repeat, Sub, Switch};
-use plain_machine::{Machine, Script};
-use std::hint::black_box;
-use std::time::{Duration, Instant};
-
-const ROUNDS: u32 = 20;
+use plain_machine::{Script, print_timed};
 
 /// So many fibers, nine below each tenth.
 fn tree(fibers: i64) -> Script {
@@ -28,31 +24,10 @@ fn tree(fibers: i64) -> Script {
     Script { blocks, texts: vec!["x"] }
 }
 
-/// How long the moves from the cancellation on took, and how many they were.
-fn run(script: &Script, fibers: i64) -> (Duration, u64) {
-    let mut machine = Machine::new(script);
-    for _ in 0..4 * fibers + 2 {
-        machine.turn();
-    }
-    let begun = Instant::now();
-    let mut moves = 0;
-    while machine.turn() {
-        moves += 1;
-    }
-    let took = begun.elapsed();
-    black_box(&machine.end);
-    (took, moves)
-}
-
 fn main() {
     for fibers in [10, 100, 1_000] {
-        let script = tree(fibers);
-        let (mut least, mut moves) = (Duration::MAX, 0);
-        for _ in 0..ROUNDS {
-            let (took, made) = run(black_box(&script), fibers);
-            least = least.min(took);
-            moves = made;
-        }
-        println!("plain:  {fibers} fibers: {} ns a fiber; {moves} moves", least.as_nanos() / fibers as u128);
+        // Up to the cancellation.
+        let before = 4 * fibers + 2;
+        print_timed(&tree(fibers as i64), before, fibers, "fiber");
     }
 }

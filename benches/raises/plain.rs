@@ -6,11 +6,7 @@
 mod plain_machine;
 
 use plain_machine::Statement::{Raise, Repeat, Try};
-use plain_machine::{Machine, Script};
-use std::hint::black_box;
-use std::time::{Duration, Instant};
-
-const ROUNDS: u32 = 20;
+use plain_machine::{Script, print_timed};
 
 fn throws(turns: i64) -> Script {
     let blocks = vec![
@@ -22,28 +18,8 @@ fn throws(turns: i64) -> Script {
     Script { blocks, texts: vec!["x"] }
 }
 
-/// How long a run took, and its moves.
-fn run(script: &Script) -> (Duration, u64) {
-    let mut machine = Machine::new(script);
-    let begun = Instant::now();
-    let mut moves = 0;
-    while machine.turn() {
-        moves += 1;
-    }
-    let took = begun.elapsed();
-    black_box(&machine.end);
-    (took, moves)
-}
-
 fn main() {
     for turns in [1_000, 10_000, 100_000] {
-        let script = throws(turns);
-        let (mut least, mut moves) = (Duration::MAX, 0);
-        for _ in 0..ROUNDS {
-            let (took, made) = run(black_box(&script));
-            least = least.min(took);
-            moves = made;
-        }
-        println!("plain:  {turns} turns: {} ns a turn; {moves} moves", least.as_nanos() / turns as u128);
+        print_timed(&throws(turns as i64), 0, turns, "turn");
     }
 }
