@@ -38,7 +38,7 @@ BuiltDeclareNothing = (built : Built) → BringsNoDeclaration built → WhereBui
 abbrev pub MockedDeclareNothing : Type 0
 MockedDeclareNothing = (built : Built) → BringsNoDeclaration built → WhereMocked built DeclaresNothing
 
--- ## The lists that come next
+-- ## Each list
 
 abbrev pub HasExceptionFormsAlone : Script → Type 0
 HasExceptionFormsAlone script = HasExceptionForms script × DeclaresNothing script

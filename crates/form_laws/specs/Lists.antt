@@ -1,4 +1,4 @@
--- The lists of features that come next, each with one more than the one before.
+-- Lists of features behind that of the first forms, each with one more than the one before. The last is what is built today.
 use Rattle.std.specs.Prelude.{◌≡◌, false, [], ◌∷◌}
 use Rattle.script_model.specs.declared.Feature.TheVariants.{FirstForms, Reading, Steps, Exceptions, Switches, Groups, StreamsAndPromises, Resources, Flows, Paths, Executors}
 use Rattle.script_model.specs.Features.{Built, is_built}
