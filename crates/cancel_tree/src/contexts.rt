@@ -136,7 +136,7 @@ impl Contexts {
         ensures reached { out.new.items ≡ out.old.items ++ calls.members self.now c }
         ensures capacity { vec_capacity out.old ≤ vec_capacity out.new }
     {
-        for waiting in self.waiters.entered() {
+        for waiting in self.waiters.entered().iter() {
             if self.tree.goes_up_to(waiting.context, c) {
                 if let Err(_) = out.push(waiting.fiber) {
                     unreachable!()

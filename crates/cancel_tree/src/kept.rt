@@ -6,6 +6,7 @@ ghost use Rattle.cancel_tree.specs.Jumps.{kept_above, kept_towards, JumpsFrom, J
 
 use eio_value::Plain;
 use slab::Slab;
+use std::collections::VecDeque;
 
 /// The number of a live context, and the key under which it is kept.
 #[derive(Clone, Copy)]
@@ -90,9 +91,9 @@ pub(crate) fn jump_of(kept: &Slab<Kept>, parent: Option<Place>, protected: bool)
 }
 
 /// The place of a context, if it is live.
-pub(crate) fn place_of(places: &[Place], c: u32) -> Option<Place>
-    requires { Rise places.now }
-    ensures { result ≡ place_at places.now c }
+pub(crate) fn place_of(places: &VecDeque<Place>, c: u32) -> Option<Place>
+    requires { Rise places.now.items }
+    ensures { result ≡ place_at places.now.items c }
 {
     let index = places.partition_point(|place| place.number < c);
     match places.get(index) {

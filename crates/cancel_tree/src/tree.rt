@@ -2,7 +2,8 @@
 //!
 //! The live ones are kept in a slab, and their numbers, in order, with the slab's keys: a number is found by halving, and
 //! each step of a walk upwards takes constant time, since a context knows where its parent is kept. The walk to a given context
-//! also takes the jumps that each context knows, which are chosen so that few lie on any way. The invariant is `IsSound`.
+//! also takes the jumps that each context knows, which are chosen so that few lie on any way. Where a context ends, the places on
+//! the shorter side of its own move by one. The invariant is `IsSound`.
 //! The theorems are the clauses of the methods of [`Tree`], by `row_model`'s `Contexts`.
 
 ghost use Rattle.std.specs.Prelude.{◌≡◌, ◌<◌, ◌-◌, ◌^◌, [], length, true, IfOk};
@@ -15,6 +16,7 @@ use crate::kept::{Kept, Place, jump_of, place_of};
 use eio_value::{Full, NoMemory, Plain};
 use slab::Slab;
 use std::alloc::Global;
+use std::collections::VecDeque;
 use std::marker::Model;
 
 /// The most contexts that may live.
@@ -28,11 +30,12 @@ pub(crate) struct Tree {
     /// Those that live.
     kept: Slab<Kept>,
     /// Their places, in order of number.
-    places: Vec<Place>,
+    places: VecDeque<Place>,
 }
 
 impl Model for Tree {
-    ghost use Rattle.std.specs.Prelude.{List, vec_capacity};
+    ghost use Rattle.std.specs.Prelude.{List};
+    ghost use Rattle.std.specs.VecDeque.{deque_capacity};
     ghost use Rattle.row_model.specs.Contexts.{Context};
 
     ghost Value = { List Context };
@@ -42,7 +45,7 @@ impl Model for Tree {
 
     ghost view = { λ t. contexts_in t.made t.kept t.places.items };
 
-    ghost invariant = { λ t. IsSound t.made t.kept t.places.items (vec_capacity t.places) };
+    ghost invariant = { λ t. IsSound t.made t.kept t.places.items (deque_capacity t.places) };
 }
 
 impl Tree {
@@ -53,7 +56,7 @@ impl Tree {
         Ok(Tree {
             made: 0,
             kept: Slab::with_capacity(alloc, MOST_CONTEXTS)?,
-            places: Vec::with_capacity(alloc, MOST_CONTEXTS)?,
+            places: VecDeque::with_capacity(alloc, MOST_CONTEXTS)?,
         })
     }
 
@@ -154,9 +157,7 @@ impl Tree {
             reason: None,
             jump,
         });
-        if let Err(_) = self.places.push(Place { number, key }) {
-            unreachable!()
-        }
+        self.places.push_back_reserved(Place { number, key });
         self.made += 1;
         Ok(number)
     }
@@ -168,7 +169,9 @@ impl Tree {
         ensures { self.new ≡ without c self.old }
     {
         let index = self.places.partition_point(|place| place.number < c);
-        let place = self.places.remove(index);
+        let Some(place) = self.places.remove(index) else {
+            unreachable!()
+        };
         self.kept.remove(place.key);
     }
 }

@@ -1,7 +1,7 @@
 //! The waiting fibers, in order of their numbers.
 //!
-//! A fiber's place is found by halving, and those behind it move by one. There is room for as many as may wait, so that only
-//! `new` takes memory. The invariant is `AreInOrder`. The theorems are the clauses of the methods of [`Waiters`], by `row_model`'s
+//! A fiber's place is found by halving, and those on its shorter side move by one. There is room for as many as may wait, so that
+//! only `new` takes memory. The invariant is `AreInOrder`. The theorems are the clauses of the methods of [`Waiters`], by `row_model`'s
 //! `ContextCalls`.
 
 ghost use Rattle.std.specs.Prelude.{◌≡◌, ◌<◌, ◌≤◌, [], length, map, true, false, IfOk};
@@ -10,6 +10,7 @@ ghost use Rattle.cancel_tree.specs.Waits.{waits};
 
 use eio_value::NoMemory;
 use std::alloc::Global;
+use std::collections::VecDeque;
 use std::marker::Model;
 
 /// The most fibers that may wait.
@@ -25,11 +26,12 @@ pub(crate) struct Entered {
 /// The waiting fibers of a domain.
 #[derive(Drop)]
 pub(crate) struct Waiters {
-    entered: Vec<Entered>,
+    entered: VecDeque<Entered>,
 }
 
 impl Model for Waiters {
-    ghost use Rattle.std.specs.Prelude.{List, map, vec_capacity};
+    ghost use Rattle.std.specs.Prelude.{List, map};
+    ghost use Rattle.std.specs.VecDeque.{deque_capacity};
     ghost use Rattle.row_model.specs.Contexts.{Waiting};
 
     ghost Value = { List Waiting };
@@ -38,7 +40,7 @@ impl Model for Waiters {
 
     ghost view = { λ w. map waiting_of w.entered.items };
 
-    ghost invariant = { λ w. AreInOrder w.entered.items (vec_capacity w.entered) };
+    ghost invariant = { λ w. AreInOrder w.entered.items (deque_capacity w.entered) };
 }
 
 impl Waiters {
@@ -51,7 +53,7 @@ impl Waiters {
     pub(crate) fn new(alloc: Global) -> Result<Waiters, NoMemory>
         ensures { IfOk result (λ waiters. waiters ≡ []) }
     {
-        let entered = Vec::with_capacity(alloc, MOST_WAITING)?;
+        let entered = VecDeque::with_capacity(alloc, MOST_WAITING)?;
         Ok(Waiters { entered })
     }
 
@@ -77,9 +79,9 @@ impl Waiters {
     }
 
     /// All of them.
-    pub(crate) fn entered(&self) -> &[Entered]
-        ensures all { map waiting_of result.now ≡ self.now }
-        ensures few { length result.now ≤ 1024 }
+    pub(crate) fn entered(&self) -> &VecDeque<Entered>
+        ensures all { map waiting_of result.now.items ≡ self.now }
+        ensures few { length result.now.items ≤ 1024 }
     {
         &self.entered
     }

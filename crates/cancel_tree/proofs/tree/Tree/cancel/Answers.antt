@@ -12,7 +12,6 @@ live_as : (c : After-place_of) → is_live c.args.self.now c.args.c ≡ is_some 
 live_as c =
     ap (λ contexts. is_live contexts c.args.c) (sym c.self.view_is)
     ∙ live_is_placed c.self.inside.made c.self.inside.kept c.self.inside.places.items c.self.invariant.tree c.args.c
-    ∙ ap (λ places. is_some (place_at places c.args.c)) (sym c.deref.ensures.value)
     ∙ ap is_some (sym c.place_of.ensures)
 
 pub returns-in_default-clause-took : goal.returns-in_default-clause-took
@@ -23,7 +22,7 @@ returns-in_default-clause-after c =
     sym (cancel_none c.args.self.now c.args.c c.args.why (takes_not_live c.args.self.now c.args.c (live_as (goal.at.returns-in_default-clause-after c).After-place_of ∙ ap is_some c.in_default.is)))
 
 at : (c : In-Some) → place_at c.self.inside.places.items c.args.c ≡ Some c.in-Some.place
-at c = ap (λ places. place_at places c.args.c) (sym c.deref.ensures.value) ∙ sym c.place_of.ensures ∙ c.in-Some.is
+at c = sym c.place_of.ensures ∙ c.in-Some.is
 
 pub index_mut-requires : goal.index_mut-requires
 index_mut-requires c =

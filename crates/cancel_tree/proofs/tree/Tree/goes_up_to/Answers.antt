@@ -1,7 +1,6 @@
-use Rattle.std.proofs.Common.{◌≡◌, Some, None, ◌∙◌, sym, ap, subst}
+use Rattle.std.proofs.Common.{Some, None, ◌∙◌, sym, ap, subst}
 use Rattle.row_model.specs.Contexts.{goes_up_to}
 use Rattle.cancel_tree.specs.Kept.{contexts_in}
-use Rattle.cancel_tree.specs.Places.{place_at}
 use Rattle.cancel_tree.proofs.Trees.{UpGoesOn, up_begins, up_ends, up_goes_towards, goes_up_to_itself, lower_towards, is_there, has_value}
 use Rattle.cancel_tree.proofs.tree.Tree.goes_up_to.Goals as goal
 use Rattle.cancel_tree.proofs.tree.Tree.goes_up_to.Goals.{In-Some}
@@ -11,8 +10,7 @@ returns-then-x-c c = sym (goes_up_to_itself c.args.self.now c.args.x c.args.c c.
 
 pub way-init : goal.way-init
 way-init c =
-    let e : c.place_of-next.result ≡ place_at c.self.inside.places.items c.args.x = c.place_of-next.ensures ∙ ap (λ places. place_at places c.args.x) c.deref.ensures.value in
-    subst (UpGoesOn (contexts_in c.self.inside.made c.self.inside.kept c.self.inside.places.items) c.self.inside.places.items c.args.x c.args.c) (sym e) (up_begins c.self.inside.made c.self.inside.kept c.self.inside.places.items c.self.invariant.tree c.args.x c.args.c c.if-x-c.false)
+    subst (UpGoesOn (contexts_in c.self.inside.made c.self.inside.kept c.self.inside.places.items) c.self.inside.places.items c.args.x c.args.c) (sym c.place_of-next.ensures) (up_begins c.self.inside.made c.self.inside.kept c.self.inside.places.items c.self.invariant.tree c.args.x c.args.c c.if-x-c.false)
 
 going : (c : In-Some) → UpGoesOn (contexts_in c.self.inside.made c.self.inside.kept c.self.inside.places.items) c.self.inside.places.items c.args.x c.args.c (Some c.in-Some.place)
 going c = subst (UpGoesOn (contexts_in c.self.inside.made c.self.inside.kept c.self.inside.places.items) c.self.inside.places.items c.args.x c.args.c) c.in-Some.is c.way.invariant

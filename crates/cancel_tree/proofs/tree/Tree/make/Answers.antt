@@ -1,4 +1,4 @@
-use Rattle.std.proofs.Common.{◌≡◌, ◌<◌, ◌≤◌, ◌+◌, ◌++◌, ◌∷◌, [], vec_capacity, Some, None, true, false, ◌∙◌, sym, ap, length, arith}
+use Rattle.std.proofs.Common.{◌≡◌, ◌<◌, ◌+◌, ◌++◌, ◌∷◌, [], Some, None, true, false, ◌∙◌, sym, ap, length, arith}
 use Rattle.std.specs.Option.{option_map}
 use Rattle.row_model.specs.Contexts.{is_full, is_live, live_count, new_context}
 use Rattle.cancel_tree.specs.declared.kept.Place.{Place}
@@ -21,7 +21,7 @@ parent_found : (c : Joined-parent) → (option_map (λ (place : Place). place.nu
 parent_found c = elim c.match-parent.branch [
   | in-Some w ↦
       let lives : is_live (contexts_in c.self.inside.made c.self.inside.kept c.self.inside.places.items) w.in-Some.number ≡ true = ap (λ contexts. is_live contexts w.in-Some.number) c.self.view_is ∙ c.requires.live w.in-Some.number w.in-Some.is in
-      let at : c.match-parent.above ≡ place_at c.self.inside.places.items w.in-Some.number = w.above-is ∙ w.place_of-above.ensures ∙ ap (λ places. place_at places w.in-Some.number) w.deref.ensures.value in
+      let at : c.match-parent.above ≡ place_at c.self.inside.places.items w.in-Some.number = w.above-is ∙ w.place_of-above.ensures in
       let found = parent_is_placed c.self.inside.made c.self.inside.kept c.self.inside.places.items c.self.invariant.tree w.in-Some.number c.match-parent.above lives at in
       (found.0 ∙ sym w.in-Some.is, found.1)
   | in-None w ↦ (ap (option_map (λ (place : Place). place.number)) w.above-is ∙ sym w.in-None.is, λ p e. let none : c.match-parent.above ≡ None = w.above-is in cc)
@@ -29,20 +29,18 @@ parent_found c = elim c.match-parent.branch [
 
 pub invariant_of-self : goal.invariant_of-self
 invariant_of-self c =
-    let grown : vec_capacity c.self.inside.places ≤ vec_capacity c.push.new.self = c.push.ensures.capacity in
-    let room : 4096 ≤ vec_capacity c.self.inside.places = c.self.invariant.room in
     let placed = (parent_found (goal.at.invariant_of-self c).Joined-parent).1 in
     record {
       tree =
-          rw c.in_default.ensures.items
+          rw c.push_back_reserved.ensures.items
           (made_tree c.self.inside.made c.self.inside.kept c.self.inside.places.items c.self.invariant.tree c.insert_reserved-key.result c.match-parent.above c.args.protected c.jump_of-jump.result c.insert_reserved-key.new.self
           c.insert_reserved-key.ensures.was_vacant c.insert_reserved-key.ensures.updates placed c.insert_reserved-key.ensures.len c.insert_reserved-key.ensures.capacity);
       jumps =
-          rw c.in_default.ensures.items
+          rw c.push_back_reserved.ensures.items
           (jumps_made c.self.inside.made c.self.inside.kept c.self.inside.places.items c.self.invariant.tree c.self.invariant.jumps c.insert_reserved-key.result c.match-parent.above c.args.protected c.jump_of-jump.result c.insert_reserved-key.new.self
           c.insert_reserved-key.ensures.was_vacant c.insert_reserved-key.ensures.updates placed c.insert_reserved-key.ensures.len c.insert_reserved-key.ensures.capacity
           (if_some (JumpsUnder c.self.inside.kept c.match-parent.above c.args.protected) c.jump_of-jump.result c.jump_of-jump.ensures));
-      room = omega arith;
+      room = rw c.push_back_reserved.ensures.capacity c.self.invariant.room;
     }
 
 has_room : (c : Else-len-ge-MOST_CONTEXTS) → is_full c.args.self.now ≡ false
@@ -58,7 +56,7 @@ returns-clause-number c =
 
 pub returns-clause-after : goal.returns-clause-after
 returns-clause-after c =
-    ap (contexts_in (c.self.inside.made + 1) c.insert_reserved-key.new.self) c.in_default.ensures.items
+    ap (contexts_in (c.self.inside.made + 1) c.insert_reserved-key.new.self) c.push_back_reserved.ensures.items
     ∙ made_list c.self.inside.made c.self.inside.kept c.self.inside.places.items c.self.invariant.tree c.insert_reserved-key.result c.match-parent.above c.args.protected c.jump_of-jump.result c.insert_reserved-key.new.self
     c.insert_reserved-key.ensures.was_vacant c.insert_reserved-key.ensures.updates (parent_found (goal.at.returns-clause-after c).Joined-parent).1
     ∙ ap (λ parent. contexts_in c.self.inside.made c.self.inside.kept c.self.inside.places.items ++ new_context parent c.args.protected ∷ []) (parent_found (goal.at.returns-clause-after c).Joined-parent).0

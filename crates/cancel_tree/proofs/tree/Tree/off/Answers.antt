@@ -1,7 +1,6 @@
-use Rattle.std.proofs.Common.{◌≡◌, Some, None, ◌∙◌, sym, ap, subst, List}
+use Rattle.std.proofs.Common.{Some, None, ◌∙◌, sym, ap, subst, List}
 use Rattle.row_model.specs.Contexts.{Context, off}
 use Rattle.cancel_tree.specs.Kept.{contexts_in}
-use Rattle.cancel_tree.specs.Places.{place_at}
 use Rattle.cancel_tree.proofs.Trees.{OffGoesOn, off_begins, off_ends, off_goes_on, lower_next, is_there, has_value}
 use Rattle.cancel_tree.proofs.tree.Tree.off.Goals as goal
 use Rattle.cancel_tree.proofs.tree.Tree.off.Goals.{After-place_of-next, In-Some}
@@ -11,8 +10,7 @@ all_made c = contexts_in c.self.inside.made c.self.inside.kept c.self.inside.pla
 
 pub way-init : goal.way-init
 way-init c =
-    let e : c.place_of-next.result ≡ place_at c.self.inside.places.items c.args.c = c.place_of-next.ensures ∙ ap (λ places. place_at places c.args.c) c.deref.ensures.value in
-    subst (OffGoesOn (all_made c) c.self.inside.places.items c.args.c) (sym e) (off_begins c.self.inside.made c.self.inside.kept c.self.inside.places.items c.self.invariant.tree c.args.c)
+    subst (OffGoesOn (all_made c) c.self.inside.places.items c.args.c) (sym c.place_of-next.ensures) (off_begins c.self.inside.made c.self.inside.kept c.self.inside.places.items c.self.invariant.tree c.args.c)
 
 going : (c : In-Some) → OffGoesOn (contexts_in c.self.inside.made c.self.inside.kept c.self.inside.places.items) c.self.inside.places.items c.args.c (Some c.in-Some.place)
 going c = subst (OffGoesOn (contexts_in c.self.inside.made c.self.inside.kept c.self.inside.places.items) c.self.inside.places.items c.args.c) c.in-Some.is c.way.invariant

@@ -1,4 +1,4 @@
-use Rattle.std.proofs.Common.{◌≡◌, ℕ, Option, Some, None, ◌∙◌, sym, ap}
+use Rattle.std.proofs.Common.{◌≡◌, Some, None, ◌∙◌, sym, ap}
 use Rattle.std.specs.Option.{option_map}
 use Rattle.row_model.specs.Contexts.{Context, context_at}
 use Rattle.cancel_tree.specs.declared.kept.Place.{Place}
@@ -10,11 +10,11 @@ use Rattle.cancel_tree.proofs.tree.Tree.parent.Goals.{In-Some}
 
 pub returns-in_default : goal.returns-in_default
 returns-in_default c =
-    let none : place_at c.self.inside.places.items c.args.c ≡ None = ap (λ places. place_at places c.args.c) (sym c.deref.ensures.value) ∙ (sym c.place_of.ensures ∙ c.in_default.is) in
+    let none : place_at c.self.inside.places.items c.args.c ≡ None = sym c.place_of.ensures ∙ c.in_default.is in
     sym (ap (λ contexts. (context_at contexts c.args.c).parent) (sym c.self.view_is) ∙ ap (λ (context : Context). context.parent) (absent_there c.self.inside.made c.self.inside.kept c.self.inside.places.items c.self.invariant.tree c.args.c none))
 
 at : (c : In-Some) → place_at c.self.inside.places.items c.args.c ≡ Some c.in-Some.place
-at c = ap (λ places. place_at places c.args.c) (sym c.deref.ensures.value) ∙ sym c.place_of.ensures ∙ c.in-Some.is
+at c = sym c.place_of.ensures ∙ c.in-Some.is
 
 pub index-requires : goal.index-requires
 index-requires c =

@@ -1,4 +1,4 @@
-use Rattle.std.proofs.Common.{rules, ◌≡◌, ◌≤◌, ◌<◌, ◌+◌, sym, ap, subst, ◌∙◌, length, map, nat_lt, false, arith, vec_capacity}
+use Rattle.std.proofs.Common.{rules, ◌≡◌, ◌≤◌, ◌<◌, ◌+◌, sym, ap, ◌∙◌, length, map, nat_lt, false, arith, deque_capacity}
 use Rattle.std.proofs.lemmas.List.{length-map}
 use Rattle.std.proofs.lemmas.List.Sorted.{IsPartitionPoint-from_clause}
 use Rattle.row_model.specs.ContextCalls.{put_in}
@@ -12,9 +12,9 @@ use Rattle.cancel_tree.proofs.waiters.Waiters.enter.Goals.{After-partition_point
 -- the index parts the numbers at the fiber's
 parts : (c : After-partition_point-index) → Parts c.args.fiber c.self.inside.entered.items c.partition_point-index.result
 parts c =
-    let found = IsPartitionPoint-from_clause (λ (entered : Entered). nat_lt entered.fiber c.args.fiber) c.deref.result.now c.partition_point-index.result
-    c.partition_point-index.ensures.partitioned (rw c.deref.ensures.value (first_are_lower c.args.fiber _ c.self.invariant.rise)) (λ a r f' k. search rules) in
-    subst (λ xs. Parts c.args.fiber xs c.partition_point-index.result) c.deref.ensures.value (record { within = c.partition_point-index.ensures.bound; before = found.0; behind = found.1 })
+    let found = IsPartitionPoint-from_clause (λ (entered : Entered). nat_lt entered.fiber c.args.fiber) c.self.inside.entered.items c.partition_point-index.result
+    c.partition_point-index.ensures.partitioned (first_are_lower c.args.fiber _ c.self.invariant.rise) (λ a r f' k. search rules) in
+    record { within = rw (← c.self.inside.entered.ok.0) c.partition_point-index.ensures.bound; before = found.0; behind = found.1 }
 
 out : (c : After-partition_point-index) → waits c.args.fiber (map waiting_of c.self.inside.entered.items) ≡ false
 out c = ap (waits c.args.fiber) c.self.view_is ∙ c.requires.out
@@ -28,8 +28,8 @@ invariant_of-self c =
     let new : c.insert.new.self.len ≡ length c.insert.new.self.items = c.insert.new.self.ok.0 in
     let old : c.self.inside.entered.len ≡ length c.self.inside.entered.items = c.self.inside.entered.ok.0 in
     let more : c.insert.new.self.len ≡ c.self.inside.entered.len + 1 = c.in_default.ensures.len in
-    let grown : vec_capacity c.self.inside.entered ≤ vec_capacity c.insert.new.self = c.insert.ensures.capacity in
-    let room : 1024 ≤ vec_capacity c.self.inside.entered = c.self.invariant.room in
+    let grown : deque_capacity c.self.inside.entered ≤ deque_capacity c.insert.new.self = c.insert.ensures.capacity in
+    let room : 1024 ≤ deque_capacity c.self.inside.entered = c.self.invariant.room in
     record { rise = rw c.in_default.ensures.items (Rise-put (record { fiber = c.args.fiber; context = c.args.context }) c.self.inside.entered.items c.partition_point-index.result (parts begun) (out begun) c.self.invariant.rise); few = omega arith; room = omega arith }
 
 pub returns : goal.returns
