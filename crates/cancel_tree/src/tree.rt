@@ -1,9 +1,9 @@
 //! The contexts of a domain.
 //!
-//! The live ones are kept in a slab, and their numbers, in order, with the slab's keys: a number is found by halving, and
-//! each step of a walk upwards takes constant time, since a context knows where its parent is kept. The walk to a given context
-//! also takes the jumps that each context knows, which are chosen so that few lie on any way. Where a context ends, the places on
-//! the shorter side of its own move by one. The invariant is `IsSound`.
+//! The live ones are kept in a slab, and their places, numbers with the slab's keys, in order: a number is found by halving, and
+//! where a context ends, the places on the shorter side of its own move by one. Each step of a walk upwards takes constant time,
+//! since a context knows where its parent is kept. The walk to a given context also takes the jumps that each context knows, which
+//! are chosen so that few lie on any way. The invariant is `IsSound`.
 //! The theorems are the clauses of the methods of [`Tree`], by `row_model`'s `Contexts`.
 
 ghost use Rattle.std.specs.Prelude.{◌≡◌, ◌<◌, ◌-◌, ◌^◌, [], length, true, IfOk};

@@ -1,8 +1,8 @@
 //! The waiting fibers, in order of their numbers.
 //!
 //! A fiber's place is found by halving, and those on its shorter side move by one. There is room for as many as may wait, so that
-//! only `new` takes memory. The invariant is `AreInOrder`. The theorems are the clauses of the methods of [`Waiters`], by `row_model`'s
-//! `ContextCalls`.
+//! only `new` takes memory. The invariant is `AreInOrder`. The theorems are the clauses of the methods of [`Waiters`], by
+//! `row_model`'s `ContextCalls`.
 
 ghost use Rattle.std.specs.Prelude.{◌≡◌, ◌<◌, ◌≤◌, [], length, map, true, false, IfOk};
 ghost use Rattle.row_model.specs.ContextCalls.{put_in, taken_out};

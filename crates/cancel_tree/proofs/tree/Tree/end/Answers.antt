@@ -1,4 +1,4 @@
-use Rattle.std.proofs.Common.{rules, ◌≡◌, ◌<◌, ◌≤◌, ◌+◌, deque_capacity, Some, true, ◌∙◌, sym, ap, subst, length, arith, nat_lt, true≢false}
+use Rattle.std.proofs.Common.{rules, ◌≡◌, ◌<◌, ◌+◌, Some, true, ◌∙◌, sym, ap, subst, length, arith, nat_lt, true≢false}
 use Rattle.std.specs.Prelude.{slice_get, is_some}
 use Rattle.std.proofs.lemmas.List.Sorted.{IsPartitionPoint-from_clause}
 use Rattle.slab.specs.Slab.{get}
@@ -56,7 +56,6 @@ at_removed c found = (found.at ∙ ap Some (removed c found), found.there ∙ ap
 pub invariant_of-self : goal.invariant_of-self
 invariant_of-self c =
     let at = at_removed (goal.at.invariant_of-self c).In-Some (placed (goal.at.invariant_of-self c).After-partition_point-index) in
-    let room : 4096 ≤ deque_capacity c.self.inside.places = c.self.invariant.room in
     let count : length (rest_of c.self.inside.places.items c.partition_point-index.result) + 1 ≡ length c.self.inside.places.items =
     (let a : c.remove.new.self.len + 1 ≡ c.self.inside.places.len = c.in-Some.ensures.len in
     let b : c.remove.new.self.len ≡ length c.remove.new.self.items = c.remove.new.self.ok.0 in
@@ -73,7 +72,7 @@ invariant_of-self c =
           rw c.in-Some.ensures.items
           (jumps_left c.self.inside.made c.self.inside.kept c.self.inside.places.items c.self.invariant.tree c.self.invariant.jumps c.args.c c.partition_point-index.result c.in-Some.place c.remove-2.new.self at.0 at.1
           c.remove-2.ensures.updates childless);
-      room = rw c.remove.ensures.capacity room;
+      room = rw c.remove.ensures.capacity c.self.invariant.room;
     }
 
 pub returns : goal.returns
