@@ -1,5 +1,6 @@
 -- What is kept of a domain, as the domain of the definitions that it stands for, under the nodes of its script.
--- The definitions keep fibers and contexts that have ended; what is kept stands for every domain that differs in those alone.
+-- The definitions keep fibers and contexts that have ended; what is kept stands for every domain that differs in those alone, or in
+-- what no built form uses: resume words, the clock and timers.
 use Rattle.std.specs.Prelude.{◌≡◌, ℕ, List, length, true, false, Option, Some, None}
 use Rattle.script_lang.specs.declared.node.Node.{Node}
 use Rattle.fiber_step.specs.Kept.{position_of}

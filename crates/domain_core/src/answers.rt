@@ -71,7 +71,7 @@ impl Domain {
     /// The call raises this anew.
     ///
     /// # Errors
-    /// [`NoMemory`] where memory runs out; the domain isn't used again then.
+    /// [`NoMemory`] where memory, or the numbers for raises, run out; the domain isn't used again then.
     pub(crate) fn raise(
         &mut self,
         fiber: u32,
@@ -91,7 +91,7 @@ impl Domain {
     /// The call raises anew that its context is off, for this reason.
     ///
     /// # Errors
-    /// [`NoMemory`] where memory runs out; the domain isn't used again then.
+    /// [`NoMemory`] where memory, or the numbers for raises, run out; the domain isn't used again then.
     pub(crate) fn raise_cancelled(
         &mut self,
         fiber: u32,

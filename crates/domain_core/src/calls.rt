@@ -54,7 +54,7 @@ impl Domain {
     /// `check`: raises where the fiber's context is off.
     ///
     /// # Errors
-    /// [`NoMemory`] where memory runs out; the domain isn't used again then.
+    /// [`NoMemory`] where memory, or the numbers for raises, run out; the domain isn't used again then.
     pub(crate) fn check(&mut self, fiber: u32, told: &mut Told) -> Result<(), NoMemory>
         requires awake { IsAwake self.old fiber }
         requires room { length self.old.ready < 1024 }

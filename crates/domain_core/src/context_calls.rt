@@ -20,7 +20,7 @@ impl Domain {
     /// `sub`: the fiber goes into the block in a new context, unless its own is off.
     ///
     /// # Errors
-    /// [`NoMemory`] where memory runs out; the domain isn't used again then.
+    /// [`NoMemory`] where memory, or the numbers for raises, run out; the domain isn't used again then.
     pub(crate) fn sub(
         &mut self,
         script: &Script,
@@ -89,7 +89,7 @@ impl Domain {
     /// The end of a block of a context: what came to it passes on, but for the value of a handler of a switch that had finished.
     ///
     /// # Errors
-    /// [`NoMemory`] where memory runs out; the domain isn't used again then.
+    /// [`NoMemory`] where memory, or the numbers for raises, run out; the domain isn't used again then.
     pub(crate) fn leave(
         &mut self,
         fiber: u32,
@@ -126,7 +126,7 @@ impl Domain {
     /// `cancel` of a context, unless it has ended.
     ///
     /// # Errors
-    /// [`NoMemory`] where memory runs out; the domain isn't used again then.
+    /// [`NoMemory`] where memory, or the numbers for raises, run out; the domain isn't used again then.
     pub(crate) fn cancel(
         &mut self,
         fiber: u32,

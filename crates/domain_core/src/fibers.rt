@@ -58,6 +58,9 @@ impl Model for Fibers {
 
 impl Fibers {
     /// No fibers, with room for as many as may live.
+    ///
+    /// # Errors
+    /// [`NoMemory`] where memory runs out.
     pub(crate) fn new(alloc: Global) -> Result<Fibers, NoMemory>
         ensures { IfOk result (λ fibers. fibers ≡ []) }
     {

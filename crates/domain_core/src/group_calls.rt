@@ -37,7 +37,7 @@ impl Domain {
     /// caller's own is off. The new fibers stand in order before all others, the caller behind them.
     ///
     /// # Errors
-    /// [`NoMemory`] where memory runs out; the domain isn't used again then.
+    /// [`NoMemory`] where memory, or the numbers for raises, run out; the domain isn't used again then.
     pub(crate) fn branches(
         &mut self,
         script: &Script,

@@ -6,8 +6,8 @@
 //! their answers (`Turns`). Fibers and contexts that have ended are forgotten.
 //!
 //! Built are the forms of exceptions, cancellation, switches and groups (`HasBuiltForms` of `domain_laws`). What holds between two moves of such a
-//! script is `StandsWell` of `well_laws`, which is a law of the definitions; the calls of fibers rest on what follows from it
-//! (`specs/Conditions`).
+//! script is `StandsWell` of `well_laws`, and that each move keeps it is a law of the definitions; the calls of fibers rest on what follows
+//! from it (`specs/Conditions`).
 #![tactic(auto)]
 
 mod answers;

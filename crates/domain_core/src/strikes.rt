@@ -18,7 +18,7 @@ impl Domain {
     /// context is off. One that was struck before has gone on.
     ///
     /// # Errors
-    /// [`NoMemory`] where memory runs out; the domain isn't used again then.
+    /// [`NoMemory`] where memory, or the numbers for raises, run out; the domain isn't used again then.
     pub(crate) fn strike(&mut self, strike: Strike, told: &mut Told) -> Result<(), NoMemory>
         requires may { MayStrike self.old strike.fiber }
         ensures makes { OnOk result (Makes (own_duty (strike_by strike.maker strike.fiber)) self.old told.new self.new) }

@@ -26,7 +26,7 @@ impl Domain {
     /// `switch`: the fiber goes into the block of a new switch, in a new context, unless its own is off.
     ///
     /// # Errors
-    /// [`NoMemory`] where memory runs out; the domain isn't used again then.
+    /// [`NoMemory`] where memory, or the numbers for raises, run out; the domain isn't used again then.
     pub(crate) fn open_switch(
         &mut self,
         script: &Script,
@@ -156,7 +156,7 @@ impl Domain {
     /// `fail`: a failure with this text is given to the switch, unless it has finished.
     ///
     /// # Errors
-    /// [`NoMemory`] where memory runs out; the domain isn't used again then.
+    /// [`NoMemory`] where memory, or the numbers for raises, run out; the domain isn't used again then.
     pub(crate) fn fail(
         &mut self,
         fiber: u32,

@@ -44,7 +44,7 @@ impl Domain {
     /// The objects are mocked exactly where the domain is. After an error the domain isn't used again.
     ///
     /// # Errors
-    /// [`NoMemory`] where memory runs out.
+    /// [`NoMemory`] where memory, or the numbers for raises, run out.
     pub fn turn<O: Extras>(
         &mut self,
         script: &Script,
@@ -195,7 +195,7 @@ impl Domain {
     /// The next call of a fiber, before which it has run its silent statements.
     ///
     /// # Errors
-    /// [`NoMemory`] where memory runs out; the domain isn't used again then.
+    /// [`NoMemory`] where memory, or the numbers for raises, run out; the domain isn't used again then.
     fn next_call(&mut self, script: &Script, texts: &mut Texts, fiber: u32) -> Result<Ask, NoMemory>
         requires runnable { IsRunnable script.now }
         requires stands { StandsForSome script.now texts.old (with_head fiber self.old) }

@@ -1,5 +1,5 @@
 -- The forms that are built, as far as the laws of a domain speak of them: what a fiber of such forms has to do, and what it calls.
--- Once a form more is built, it stands here; nothing else of what holds between two moves has to be said anew for it.
+-- A form more of contexts, switches and groups stands here alone; one that waits on an object or on the clock changes what holds between two moves too.
 use Rattle.std.specs.Prelude.{◌≤◌, List, [], ◌∷◌, All, length}
 use Rattle.script_model.specs.Scripts.{Script}
 use Rattle.script_model.specs.Syntax.{Statement, Let, LetForm, If, Give, Raise, Try, Repeat, Loop, Trace, Yield, Check, AwaitCancel, Sub, Protect, Cancel, Switch, Fork, Plain, Daemon, Fail, OnRelease, Branches, Group, Both, First, Block, Begins, Statements, Done, Then, Blocks, NoBlocks, AndBlock}

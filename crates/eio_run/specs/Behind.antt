@@ -1,4 +1,4 @@
--- The command of `clap` that reads the words behind the first: no option yet, and neither help nor version.
+-- The command of `clap` that reads the words behind the first: no option (that of `mock` is added in Steps), and neither help nor version.
 use Rattle.std.specs.Prelude.{◌≡◌, ◌⊎◌, true, codes, [], Option, Some, None}
 use Rattle.clap.specs.Words.{App, new_app, Kinds, IsAmong}
 use Rattle.clap.specs.Simple.{on_top}

@@ -20,7 +20,7 @@ pub const CANCELLATION: &str = r#"; Who is cancelled, and when it is noticed.
             (trace "still here")
             (try ((check)) why ((trace "saver: " why))))
           (cancel c "user left")
-          ; The canceller itself goes on up to a call that looks: a wait, `yield`, `check`, or a new scope.
+          ; The canceller itself goes on up to a call that looks: a wait, `yield`, `check`, `sub`, a switch or a group.
           (trace "cancelled")
           (yield)
           (trace "not reached"))))

@@ -19,8 +19,8 @@ use trace_out::{Gate, Sink, Source, Status};
 /// Does what `words`, those behind the program's name, ask for: reads an input from `source`, writes what is answered to
 /// `sink`, and returns how it ended.
 ///
-/// The commands today are `mock`, which runs a script on one mocked domain, in at most as many moves as its option says; `check`, which says whether the input is a script of the
-/// notation; and `print`, which writes such a script in its canonical spelling. Words without a meaning are answered by `Usage`
+/// The commands today are `mock`, which runs a script on one mocked domain, in at most as many moves as its option says; `check`, which
+/// says whether the input is a script of the notation; and `print`, which writes such a script in its canonical spelling. Words without a meaning are answered by `Usage`
 /// before anything is read. At most 262,145 bytes are read. The gate is never asked by these commands.
 ///
 /// A run of `mock` has `Raised` exactly where it came to rest, main having ended with an exception, and `Deadlock` exactly where it came to
@@ -50,7 +50,7 @@ pub fn eio_run<R: Threads + Wait + Sync, S: Source, K: Sink, G: Gate>(
     ensures source_later { S.faults source.old ≤ S.faults source.new }
     ensures sink_later { K.faults sink.old ≤ K.faults sink.new }
 
-    // `check` and `print` run nothing, so that none of the statuses of a run comes of them.
+    // `check` and `print` run nothing, so that they neither raise nor stand still, nor meet a limit of steps, fibers or contexts.
     ensures over { CanComeOf (meaning built_today (map string_bytes words.now)) result }
 
     // The two endings of a run that comes to rest otherwise than well, each with its cause.

@@ -1,4 +1,4 @@
--- Nothing is declared, so that nothing is called and nobody waits.
+-- Nothing is declared, so that nothing is called and nobody waits on an object.
 use Rattle.std.proofs.Common.{◌≡◌, ℕ, Bool, true, false, List, [], ◌∷◌, None, Some, refl, ap, sym, ◌∙◌, arith}
 use Rattle.std.specs.Prelude.{All, map, slice_get}
 use Rattle.std.proofs.lemmas.Bool.{false≢true}

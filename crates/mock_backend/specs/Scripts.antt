@@ -1,11 +1,11 @@
--- Scripts that are run.
+-- A domain that the loop of a run may have come to.
 use Rattle.std.specs.Prelude.{ℕ, List}
 use Rattle.domain_core.specs.Keeping.{KeptDomain}
 use Rattle.domain_core.specs.Turns.{StandsForSome}
 use Rattle.script_model.specs.Scripts.{Script}
 use Rattle.well_laws.specs.WellStates.{IsRunnable}
 
--- a run of some script has come to this domain
+-- what is kept stands for some domain of a script that can be run
 pub record IsOfRun (texts : List (List ℕ)) (kept : KeptDomain) : Type 0 where
   pub script : Script
   pub runnable : IsRunnable script

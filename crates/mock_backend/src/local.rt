@@ -1,7 +1,7 @@
 //! The objects of one mocked domain.
 //!
-//! No kind of object is built yet: a script that is run declares nothing, so that nothing is called, nobody waits, and no message comes. The
-//! theorems are the clauses of the two traits at [`Local`], whose relations are those of specs/Objects. A kind that is built
+//! No kind of object is built yet: a script that is run declares nothing, so that nothing is called, nobody waits on an object, and no message comes.
+//! The theorems are the clauses of the two traits at [`Local`], whose relations are those of specs/Objects. A kind that is built
 //! is a variant of [`Declared`].
 
 ghost use Rattle.std.specs.Prelude.{◌≡◌, false, true, []};

@@ -30,6 +30,9 @@ fn answer_refusal<K: Sink>(
 }
 
 /// Answers an input: writes what is due to it, and returns how it ended.
+///
+/// # Errors
+/// `WriteFault` where the sink failed, `NoMemory` where memory runs out; a front of what is due was written.
 pub(crate) fn respond<K: Sink>(
     alloc: Global,
     input: &[u8],

@@ -91,6 +91,9 @@ fn end_run<K: Sink>(
 ///
 /// It ends with an exception, or in a deadlock, exactly where nothing is left to be done and no limit was met, and main has ended with an
 /// exception, or hasn't ended.
+///
+/// # Errors
+/// `WriteFault` where the sink failed, `NoMemory` where memory runs out; a front of the text was written.
 pub(crate) fn run_script<K: Sink>(
     alloc: Global,
     script: &Script,

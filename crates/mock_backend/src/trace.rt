@@ -9,6 +9,9 @@ use eio_value::{TextId, Texts};
 use trace_out::{Line, Sink, render_trace, write_all};
 
 /// Writes the lines of the trace that a move writes; most moves write none. One buffer serves all moves of a run.
+///
+/// # Errors
+/// `WriteFault` where the sink failed, `NoMemory` where memory runs out; a front of the lines was written.
 pub(crate) fn write_line<K: Sink>(
     sink: &mut K,
     texts: &Texts,
