@@ -27,10 +27,10 @@ use Rattle.machine_model.specs.Steps as steps
 use Rattle.machine_model.specs.Steps.{Step}
 use Rattle.scope_laws.specs.Finished.{WaitsOnObject, ResumesWaiting, message_in}
 use Rattle.scope_laws.proofs.Counts.{times, Compared, Same, Other, compared, one, one_self}
-use Rattle.scope_laws.proofs.Scopes.{View, view, standing_at, Sound, IsFinished}
+use Rattle.scope_laws.proofs.Scopes.{View, view, standing_at, Sound, Scope, OnSwitch, IsOver}
 use Rattle.scope_laws.proofs.Standings.{let_go}
 use Rattle.scope_laws.proofs.Calls.{Ends, after_does}
-use Rattle.scope_laws.proofs.Moves.{hand_of, Prepares, prepares, job_leads, own_ends, called_ends}
+use Rattle.scope_laws.proofs.Moves.{hand_of, view_of, forgotten, Prepares, prepares, job_leads, own_ends, called_ends}
 use Rattle.scope_laws.proofs.Objects.{Every, RowOf, Key, in_row, in_rows, Fewer, WakesNobody, RowSteps, Left, Enters, Woke, row_steps, at_all, IsThere, found_in_rows}
 use Rattle.scope_laws.proofs.Mocked.{ready_isnt_parked, Caller, ByFiber, ByDuty, caller, never_waits, parks_then, resumed_stay, Striking, striking}
 use Rattle.scope_laws.proofs.Waiting.{key_of, key_is, resumed, Locals, StoodIn, SentIn, Waits, PutAt, Put, Remains, put_at, Stay, StayAll, waits_on, waits_freed, PostedAt, Posts, Stands, posted_at, quiet_waits, entered_waits, woken_gone, woken_unsent, woken_waits, StruckThen, struck_then, it_is_sent, took_waits, took_gone, took_unsent}
@@ -183,7 +183,7 @@ module _ (script : Script) (locals : Locals) (s : SharedState) (w : Waits locals
     own_step = called_move (prepared l) asked came.answer
 
     own : Ends (view l) own_step
-    own = after_does (hand_of (prepared l).doing) (view l) (view m) own_step begun.goes (called_ends (prepared l).doing m asked came.answer)
+    own = after_does (hand_of (prepared l).doing) (view l) (view_of (prepared l)) own_step begun.goes (called_ends (prepared l).doing m asked came.answer)
 
     abbrev after_own : Locals
     after_own = put d own_step.state locals
@@ -249,7 +249,7 @@ module _ (script : Script) (locals : Locals) (s : SharedState) (w : Waits locals
             same = ap (λ (x : Waiter). x.fiber) who
 
             in_hand : Sound (g ∷ []) (view m)
-            in_hand = subst (λ (what : Doing). Sound (hand_of what) (view m)) what begun.goes.sound
+            in_hand = subst (λ (what : Doing). Sound (hand_of what) (view m)) what (forgotten (prepared l).doing m begun.goes.sound).sound
 
             parked_here : WaitsFor (view own_step.state) asked.who.fiber asked.who
             parked_here =
@@ -297,7 +297,7 @@ module _ (script : Script) (locals : Locals) (s : SharedState) (w : Waits locals
   comes_by : (label : Label) (stamp : ℕ) (away : Option Letter) (from : ℕ) (t : SharedState) → Fits l label → l.number ≡ d → SharedMoves s d stamp label away from t → Comes label t
   unfolding asks
   comes_by Inner stamp away from t fits numbered it =
-      let own : Ends (view l) (own_move script (prepared l)) = after_does (hand_of (prepared l).doing) (view l) (view m) (own_move script (prepared l)) begun.goes (own_ends script (prepared l).doing m begun.call) in
+      let own : Ends (view l) (own_move script (prepared l)) = after_does (hand_of (prepared l).doing) (view l) (view_of (prepared l)) (own_move script (prepared l)) begun.goes (own_ends script (prepared l).doing m begun.call) in
       subst (Comes Inner) (sym it.1) (tt, waits_at (view (own_move script (prepared l)).state) s own.goes.waits w)
   comes_by (Called asked given mine) stamp away from t fits numbered it =
       subst (Comes (Called asked given mine)) (sym it.5)
@@ -315,10 +315,10 @@ pub record AllSound (locals : Locals) (s : SharedState) : Type 0 where
   pub waits : Waits locals s
 
 -- what a move of a legal run is for the domain that makes it, and what it leaves
-record MovesOn (script : Script) (locals : Locals) (x : Noted) (next : Locals) (t : SharedState) : Type 0 where
-  moves : Moves script (locals (domain_of x)) x (next (domain_of x))
-  all : AllSound next t
-  others : (e : ℕ) → (domain_of x ≡ e → ⊥) → next e ≡ locals e
+pub record MovesOn (script : Script) (locals : Locals) (x : Noted) (next : Locals) (t : SharedState) : Type 0 where
+  pub moves : Moves script (locals (domain_of x)) x (next (domain_of x))
+  pub all : AllSound next t
+  pub others : (e : ℕ) → (domain_of x ≡ e → ⊥) → next e ≡ locals e
 
 one_move : (script : Script) (locals : Locals) (s : SharedState) (x : Noted) (k : DomainState) (t : SharedState) → AllSound locals s → DomainMoves script (locals (domain_of x)) x k
     → SharedMoves s (domain_of x) (stamp_of x) x.label x.away x.from t → MovesOn script locals x (put (domain_of x) k locals) t
@@ -349,36 +349,37 @@ one_move script locals s x k t all it shared = record {
     other_by e differs (Put same at) = absurd (differs same)
     other_by e differs (Remains other at) = at
 
-legal_move : (script : Script) (s t : State (DomainMoves script)) (x : Noted) → AllSound s.locals s.shared → MovesAll (DomainMoves script) s x t → MovesOn script s.locals x t.locals t.shared
+pub legal_move : (script : Script) (s t : State (DomainMoves script)) (x : Noted) → AllSound s.locals s.shared → MovesAll (DomainMoves script) s x t → MovesOn script s.locals x t.locals t.shared
 legal_move script s t x all it = subst (λ (next : Locals). MovesOn script s.locals x next t.shared) (sym it.locals) (one_move script s.locals s.shared x it.next t.shared all it.steps it.shared)
 
--- a switch of a domain stays finished
-finished_on : (script : Script) (n d : ℕ) (s t : State (DomainMoves script)) (x : Noted) → AllSound s.locals s.shared → MovesOn script s.locals x t.locals t.shared → IsFinished (s.locals d).switches n → IsFinished (t.locals d).switches n
-finished_on script n d s t x all it finished = by (domain_of x == d) refl
+-- a scope of a domain stays over
+over_on : (script : Script) (n : Scope) (d : ℕ) (s t : State (DomainMoves script)) (x : Noted) → AllSound s.locals s.shared → MovesOn script s.locals x t.locals t.shared → IsOver (s.locals d).switches (s.locals d).groups n
+    → IsOver (t.locals d).switches (t.locals d).groups n
+over_on script n d s t x all it over = by (domain_of x == d) refl
   where
-    by : (b : Bool) → (domain_of x == d) ≡ b → IsFinished (t.locals d).switches n
+    by : (b : Bool) → (domain_of x == d) ≡ b → IsOver (t.locals d).switches (t.locals d).groups n
     by true is =
         let same : domain_of x ≡ d = eqb-true (domain_of x) d is in
-        subst (λ (e : ℕ). IsFinished (t.locals e).switches n) same
-        ((moved script (s.locals (domain_of x)) x (t.locals (domain_of x)) it.moves (all.sound (domain_of x))).finished n (subst (λ (e : ℕ). IsFinished (s.locals e).switches n) (sym same) finished))
-    by false is = subst (λ (m : DomainState). IsFinished m.switches n) (sym (it.others d (λ same. both_ways (domain_of x == d) is (eq-eqb (domain_of x) d same)))) finished
+        subst (λ (e : ℕ). IsOver (t.locals e).switches (t.locals e).groups n) same
+        ((moved script (s.locals (domain_of x)) x (t.locals (domain_of x)) it.moves (all.sound (domain_of x))).finished n (subst (λ (e : ℕ). IsOver (s.locals e).switches (s.locals e).groups n) (sym same) over))
+    by false is = subst (λ (m : DomainState). IsOver m.switches m.groups n) (sym (it.others d (λ same. both_ways (domain_of x == d) is (eq-eqb (domain_of x) d same)))) over
 
-finished_stays : (script : Script) (n d : ℕ) (last : ℕ × ℕ) (s : State (DomainMoves script)) (lines : List Noted) (u : State (DomainMoves script)) → AllSound s.locals s.shared → Legal (DomainMoves script) last s lines u
-    → IsFinished (s.locals d).switches n → Sound [] (view (u.locals d)) × IsFinished (u.locals d).switches n
-finished_stays script n d last s [] u all same finished = subst (λ (t : State (DomainMoves script)). Sound [] (view (t.locals d)) × IsFinished (t.locals d).switches n) same (all.sound d, finished)
-finished_stays script n d last s (x ∷ lines) u all it finished =
+pub over_stays : (script : Script) (n : Scope) (d : ℕ) (last : ℕ × ℕ) (s : State (DomainMoves script)) (lines : List Noted) (u : State (DomainMoves script)) → AllSound s.locals s.shared → Legal (DomainMoves script) last s lines u
+    → IsOver (s.locals d).switches (s.locals d).groups n → Sound [] (view (u.locals d)) × IsOver (u.locals d).switches (u.locals d).groups n
+over_stays script n d last s [] u all same over = subst (λ (t : State (DomainMoves script)). Sound [] (view (t.locals d)) × IsOver (t.locals d).switches (t.locals d).groups n) same (all.sound d, over)
+over_stays script n d last s (x ∷ lines) u all it over =
     let next : MovesOn script s.locals x it.0.locals it.0.shared = legal_move script s it.0 x all it.3 in
-    finished_stays script n d (key_of_line x) it.0 lines u next.all it.4 (finished_on script n d s it.0 x all next finished)
+    over_stays script n d (key_of_line x) it.0 lines u next.all it.4 (over_on script n d s it.0 x all next over)
 
 closes_then : (script : Script) (n : ℕ) (x : Noted) (before later_lines : List Noted) (last : ℕ × ℕ) (s u : State (DomainMoves script)) → AllSound s.locals s.shared → Legal (DomainMoves script) last s (before ++ x ∷ later_lines) u → Answers n x.line
-    → Sound [] (view (u.locals (domain_of x))) × IsFinished (u.locals (domain_of x)).switches n
+    → Sound [] (view (u.locals (domain_of x))) × IsOver (u.locals (domain_of x)).switches (u.locals (domain_of x)).groups (OnSwitch n)
 closes_then script n x [] later_lines last s u all it answers =
     let next : MovesOn script s.locals x it.0.locals it.0.shared = legal_move script s it.0 x all it.3 in
-    finished_stays script n (domain_of x) (key_of_line x) it.0 later_lines u next.all it.4
+    over_stays script (OnSwitch n) (domain_of x) (key_of_line x) it.0 later_lines u next.all it.4
     ((moved script (s.locals (domain_of x)) x (it.0.locals (domain_of x)) next.moves (all.sound (domain_of x))).closes n (answers_closed n x.line answers))
 closes_then script n x (y ∷ before) later_lines last s u all it answers = closes_then script n x before later_lines (key_of_line y) it.0 u (legal_move script s it.0 y all it.3).all it.4 answers
 
-first_all : (script : Script) → AllSound (domain_at_first script) (shared_at_first script)
+pub first_all : (script : Script) → AllSound (domain_at_first script) (shared_at_first script)
 first_all script =
     let rows = opening_rows (StoodIn (domain_at_first script)) (most_jobs script) script.declarations in
     record {
@@ -414,7 +415,7 @@ seen_linked script n d last s (x ∷ lines) u it all =
     by false is next rest =
         subst (λ (m : DomainState). Linked script n m (seen_at script d (key_of_line x) it.0 lines u it.4) (u.locals d)) (next.others d (λ same. both_ways (domain_of x == d) is (eq-eqb (domain_of x) d same))) rest
 
-all_on : (script : Script) (last : ℕ × ℕ) (s : State (DomainMoves script)) (lines : List Noted) (u : State (DomainMoves script)) → Legal (DomainMoves script) last s lines u → AllSound s.locals s.shared → AllSound u.locals u.shared
+pub all_on : (script : Script) (last : ℕ × ℕ) (s : State (DomainMoves script)) (lines : List Noted) (u : State (DomainMoves script)) → Legal (DomainMoves script) last s lines u → AllSound s.locals s.shared → AllSound u.locals u.shared
 all_on script last s [] u same all = subst (λ (t : State (DomainMoves script)). AllSound t.locals t.shared) same all
 all_on script last s (x ∷ lines) u it all = all_on script (key_of_line x) it.0 lines u it.4 (legal_move script s it.0 x all it.3).all
 

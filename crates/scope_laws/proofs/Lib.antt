@@ -1,6 +1,9 @@
 pub mod Counts
+pub mod Gathered
 pub mod Scopes
 pub mod Settling
+pub mod Joining
+pub mod Veiling
 pub mod Standings
 pub mod Changes
 pub mod Calls
@@ -13,4 +16,7 @@ pub mod Turns
 pub mod Released
 pub mod Waiting
 pub mod Histories
+pub mod Joined
+pub mod Veils
+pub mod Handling
 mod WorkedRuns

@@ -43,10 +43,10 @@ use Rattle.row_model.specs.Executors as executors
 use Rattle.row_model.specs.Row.{Queued, Side, Handed, found}
 use Rattle.row_model.specs.Row as rows
 use Rattle.scope_laws.proofs.Counts.{one}
-use Rattle.scope_laws.proofs.Scopes.{View, view, standing_at, is_over, IsReady, Sound, IsFinished, Goes, set_same, set_other, within}
+use Rattle.scope_laws.proofs.Scopes.{View, view, standing_at, is_over, IsReady, Sound, IsFinished, Scope, OnSwitch, IsOver, Goes, set_same, set_other, within}
 use Rattle.scope_laws.proofs.Standings.{let_go, Loose}
 use Rattle.scope_laws.proofs.Calls.{closed_in, Ends, after_does}
-use Rattle.scope_laws.proofs.Moves.{hand_of, Prepares, prepares, Keeps, kept, received_keeps, owing_wait_same, job_leads, own_ends, called_ends, struck_keeps, mocked_ends}
+use Rattle.scope_laws.proofs.Moves.{hand_of, view_of, forgotten, Prepares, prepares, Keeps, kept, received_keeps, owing_wait_same, job_leads, own_ends, called_ends, struck_keeps, mocked_ends}
 use Rattle.scope_laws.proofs.Runs.{keeps_after, strikes_waiting, resumes_later, none_is_left, answers_closed, opening_sound}
 use Rattle.scope_laws.proofs.Objects.{Every, Stood, RowOf, Held, Fewer, WakesNobody, RowSteps, Left, Enters, Woke, row_steps, Key, fiber_of, in_row, in_rows, at_all, parked_in_rows, held_on, held_fewer, held_more, woken_none, held_without, held_struck}
 
@@ -203,8 +203,8 @@ module _ (script : Script) (l : DomainState) (s : SharedState) (fine : Fine l s)
   first = prepares l fine.sound
 
   -- what the domain's step leaves, from its beginning on
-  whole : (step : Step) → (Sound (hand_of (prepared l).doing) (view (prepared l).state) → Ends (view (prepared l).state) step) → Ends (view l) step
-  whole step it = after_does (hand_of (prepared l).doing) (view l) (view (prepared l).state) step first.goes it
+  whole : (step : Step) → (Sound (hand_of (prepared l).doing) (view_of (prepared l)) → Ends (view_of (prepared l)) step) → Ends (view l) step
+  whole step it = after_does (hand_of (prepared l).doing) (view l) (view_of (prepared l)) step first.goes it
 
   ends_come : (step : Step) → Ends (view l) step → Comes l step s
   ends_come step it = record { keeps = kept (view l) step it; held = held_on (view l) (view step.state) s.rows it.goes.waits fine.held }
@@ -278,7 +278,7 @@ module _ (script : Script) (l : DomainState) (s : SharedState) (fine : Fine l s)
             same = ap (λ (w : Waiter). w.fiber) who
 
             in_hand : Sound (g ∷ []) (view m)
-            in_hand = subst (λ (d : Doing). Sound (hand_of d) (view m)) what first.goes.sound
+            in_hand = subst (λ (d : Doing). Sound (hand_of d) (view m)) what (forgotten (prepared l).doing m first.goes.sound).sound
 
             parked : standing_at (view own_step.state) asked.who.fiber ≡ Parked (OnObject asked.who)
             parked =
@@ -365,7 +365,7 @@ module _ (script : Script) (l : DomainState) (s : SharedState) (fine : Fine l s)
 
   struck_comes : (won : Bool) → Comes l (struck_move (prepared l) won) (after_strike s who won)
   struck_comes won = record {
-    keeps = keeps_after (hand_of (prepared l).doing) (view l) (view (prepared l).state) _ prepared_first.goes (struck_keeps (prepared l).doing (prepared l).state won (strikes_waiting (prepared l).doing (prepared l).state who is));
+    keeps = keeps_after (hand_of (prepared l).doing) (view l) (view_of (prepared l)) _ prepared_first.goes (struck_keeps (prepared l).doing (prepared l).state won (strikes_waiting (prepared l).doing (prepared l).state who is));
     held = by won (striking (prepared l).doing (prepared l).state who is);
   }
     where
@@ -387,7 +387,7 @@ module _ (script : Script) (l : DomainState) (s : SharedState) (fine : Fine l s)
 -- what is known after a move of a mocked run
 pub record Going (l : DomainState) (line : Line) (next : Mock) : Type 0 where
   pub fine : Fine next.local next.shared
-  pub finished : (n : ℕ) → IsFinished l.switches n → IsFinished next.local.switches n
+  pub finished : (n : Scope) → IsOver l.switches l.groups n → IsOver next.local.switches next.local.groups n
   pub closes : (n : ℕ) → closed_in line.did line.reply ≡ Some n → IsFinished next.local.switches n
 
 module _ (script : Script) (m : Mock) (fine : Fine m.local m.shared) where
@@ -419,7 +419,7 @@ module _ (script : Script) (m : Mock) (fine : Fine m.local m.shared) where
       let state : DomainState = (prepared m.local).state in
       goes_by (record { label = Mocked call it.answer it.texts; shared = m.shared; world = it.world })
       (ends_come script m.local m.shared fine (mocked_move (prepared m.local) it.answer it.texts) (whole script m.local m.shared fine (mocked_move (prepared m.local) it.answer it.texts)
-      (λ k. mocked_ends (prepared m.local).doing state it.answer (record state { texts = it.texts }) refl (prepares m.local fine.sound).call k)))
+      (λ k. mocked_ends (prepared m.local).doing state it.answer it.texts call asked (prepares m.local fine.sound).call k)))
       moved (the_move _ moved is)
 
 pub move_goes : (script : Script) (m : Mock) (moved : Moved) → Fine m.local m.shared → move script m ≡ Some moved → Going m.local moved.line moved.next
@@ -435,7 +435,7 @@ move_goes script m moved fine is = by m.local.halted is
 -- what holds of the last state of at most n moves
 record Lasts (m last : Mock) : Type 0 where
   fine : Fine last.local last.shared
-  finished : (n : ℕ) → IsFinished m.local.switches n → IsFinished last.local.switches n
+  finished : (n : Scope) → IsOver m.local.switches m.local.groups n → IsOver last.local.switches last.local.groups n
 
 abbrev pub moves_from : Script → (n : ℕ) → Option Moved → List Moved
 moves_from script n first = elim first as (λ _. List Moved) [ None ↦ [] | Some moved ↦ moved ∷ moves script n moved.next ]
@@ -455,26 +455,29 @@ lasts script (suc n) m fine = by (move script m) refl (lasts script n)
 pub last_fine : (script : Script) (n : ℕ) (m : Mock) → Fine m.local m.shared → let last : Mock = last_after m (moves script n m) in Fine last.local last.shared
 last_fine script n m fine = (lasts script n m fine).fine
 
--- after n moves and one that closed a switch, and any number of others
-later_finished : (script : Script) (n later switch : ℕ) (m : Mock) → Fine m.local m.shared → (moved : Moved) → move script (last_after m (moves script n m)) ≡ Some moved → closed_in moved.line.did moved.line.reply ≡ Some switch
-    → let last : Mock = last_after m (moves script (n + 1 + later) m) in Sound [] (view last.local) × IsFinished last.local.switches switch
+-- after n moves, one after which a scope is over, and any number of others
+pub later_over : (script : Script) (n later : ℕ) (scope : Scope) (m : Mock) → Fine m.local m.shared → (moved : Moved) → let before : Mock = last_after m (moves script n m) in move script before ≡ Some moved
+    → (Fine before.local before.shared → IsOver moved.next.local.switches moved.next.local.groups scope)
+    → let last : Mock = last_after m (moves script (n + 1 + later) m) in Sound [] (view last.local) × IsOver last.local.switches last.local.groups scope
 unfolding moves
-later_finished script zero later switch m fine moved is closed =
+later_over script zero later scope m fine moved is over =
     let next : Going m.local moved.line moved.next = move_goes script m moved fine is in
     let rest : Lasts moved.next (last_after moved.next (moves script later moved.next)) = lasts script later moved.next next.fine in
-    let result : Mock → Type 0 = λ last. Sound [] (view last.local) × IsFinished last.local.switches switch in
+    let result : Mock → Type 0 = λ last. Sound [] (view last.local) × IsOver last.local.switches last.local.groups scope in
     subst (λ (k : ℕ). result (last_after m (moves script k m))) (let e : suc later ≡ 0 + 1 + later = omega arith in e)
-    (subst (λ (first : Option Moved). result (last_after m (moves_from script later first))) (sym is) (rest.fine.sound, rest.finished switch (next.closes switch closed)))
-later_finished script (suc n) later switch m fine moved is closed =
-    subst (λ (k : ℕ). let last : Mock = last_after m (moves script k m) in Sound [] (view last.local) × IsFinished last.local.switches switch) (let e : suc (n + 1 + later) ≡ suc n + 1 + later = omega arith in e)
-    (by (move script m) refl is (λ next. later_finished script n later switch next))
+    (subst (λ (first : Option Moved). result (last_after m (moves_from script later first))) (sym is) (rest.fine.sound, rest.finished scope (over fine)))
+later_over script (suc n) later scope m fine moved is over =
+    subst (λ (k : ℕ). let last : Mock = last_after m (moves script k m) in Sound [] (view last.local) × IsOver last.local.switches last.local.groups scope) (let e : suc (n + 1 + later) ≡ suc n + 1 + later = omega arith in e)
+    (by (move script m) refl is over (λ next. later_over script n later scope next))
   where
-    by : (first : Option Moved) → move script m ≡ first → move script (last_after m (moves_from script n first)) ≡ Some moved
-        → ((next : Mock) → Fine next.local next.shared → (moved : Moved) → move script (last_after next (moves script n next)) ≡ Some moved → closed_in moved.line.did moved.line.reply ≡ Some switch
-        → let last : Mock = last_after next (moves script (n + 1 + later) next) in Sound [] (view last.local) × IsFinished last.local.switches switch)
-        → let last : Mock = last_after m (moves_from script (n + 1 + later) first) in Sound [] (view last.local) × IsFinished last.local.switches switch
-    by None none is rest = absurd (let e : ◌≡◌ {A = Option Moved} None (Some moved) = sym none ∙ is in cc)
-    by (Some made) first is rest = rest made.next (move_goes script m made fine first).fine moved is closed
+    by : (first : Option Moved) → move script m ≡ first → let before : Mock = last_after m (moves_from script n first) in move script before ≡ Some moved
+        → (Fine before.local before.shared → IsOver moved.next.local.switches moved.next.local.groups scope)
+        → ((next : Mock) → Fine next.local next.shared → (moved : Moved) → let before : Mock = last_after next (moves script n next) in move script before ≡ Some moved
+        → (Fine before.local before.shared → IsOver moved.next.local.switches moved.next.local.groups scope)
+        → let last : Mock = last_after next (moves script (n + 1 + later) next) in Sound [] (view last.local) × IsOver last.local.switches last.local.groups scope)
+        → let last : Mock = last_after m (moves_from script (n + 1 + later) first) in Sound [] (view last.local) × IsOver last.local.switches last.local.groups scope
+    by None none is over rest = absurd (let e : ◌≡◌ {A = Option Moved} None (Some moved) = sym none ∙ is in cc)
+    by (Some made) first is over rest = rest made.next (move_goes script m made fine first).fine moved is over
 
 -- ## Where a run opens
 
@@ -502,5 +505,6 @@ pub leaves_nothing_in_runs : LeavesNothingInRuns
 unfolding run
 leaves_nothing_in_runs script n later switch moved is answers =
     let last : Mock = last_after (opening script) (moves script (n + 1 + later) (opening script)) in
-    let at_end = later_finished script n later switch (opening script) (opening_fine script) moved is (answers_closed switch moved.line answers) in
+    let before : Mock = last_after (opening script) (moves script n (opening script)) in
+    let at_end = later_over script n later (OnSwitch switch) (opening script) (opening_fine script) moved is (λ fine. (move_goes script before moved fine is).closes switch (answers_closed switch moved.line answers)) in
     none_is_left switch last.local at_end.0 at_end.1

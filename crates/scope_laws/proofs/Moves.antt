@@ -1,5 +1,5 @@
 -- Each move of a domain keeps its scopes sound, as long as no message resumes a fiber that doesn't wait for one.
-use Rattle.std.proofs.Common.{◌≡◌, ℕ, suc, ◌+◌, ◌<◌, ◌==◌, ◌&&◌, Bool, true, false, cond, List, [], ◌∷◌, length, Option, Some, None, refl, sym, subst, arith, slice_get}
+use Rattle.std.proofs.Common.{◌≡◌, ℕ, suc, ◌+◌, ◌≤◌, ◌<◌, ◌==◌, ◌&&◌, Bool, true, false, cond, List, [], ◌∷◌, length, Option, Some, None, refl, ap, subst, arith, slice_get}
 use Rattle.std.specs.Prelude.{pos, negsuc, filter, not, nat_lt, take}
 use Rattle.std.specs.List.{prefix_len}
 use Rattle.std.specs.Option.{unwrap_or}
@@ -38,7 +38,8 @@ use Rattle.trace_out.specs.declared.line.Did.{Did}
 use Rattle.trace_out.specs.declared.line.Did.TheVariants as did
 use Rattle.trace_out.specs.declared.line.Said2.{Said2}
 use Rattle.trace_out.specs.declared.line.Said2.TheVariants as said
-use Rattle.machine_model.specs.Asking.{is_full_for_one}
+use Rattle.machine_model.specs.Asking.{asks_by, asks_for, is_full_for_one}
+use Rattle.machine_model.specs.Labels.{MockAsked, Mocks}
 use Rattle.machine_model.specs.ClockMoves as on_clock
 use Rattle.machine_model.specs.ContextMoves as on_contexts
 use Rattle.machine_model.specs.Domain.{Role, OfJob, OfSwitch, OfWriter, Next, GoesOn, LooksUp, FindsOff, CallsAgain, OnObject, Asleep, ForCancel, ForOthers, Resting, Standing, Ready, Parked, Ended, Fiber, Owed, Duty, Strike, Wake, Start, DomainState, fiber_at, never_made, off_for, made, to_head, to_back, placed}
@@ -53,10 +54,13 @@ use Rattle.machine_model.specs.Shared.{Asked}
 use Rattle.machine_model.specs.Steps as steps
 use Rattle.machine_model.specs.Steps.{Step}
 use Rattle.scope_laws.specs.Finished.{WaitsOnObject, ResumesWaiting}
-use Rattle.scope_laws.proofs.Scopes.{Closes, ClosesCall, ClosesNext, ClosesStanding, View, view, Sound, IsFinished, Goes, Leads, stays, both}
+use Rattle.scope_laws.proofs.Scopes.{Closes, ClosesCall, JoinsCall, ClosesNext, ClosesStanding, View, view, owing_view, Sound, IsFinished, OnSwitch, Scope, IsOver, Goes, Leads, stays, both}
+use Rattle.scope_laws.proofs.Counts.{times}
+use Rattle.scope_laws.proofs.Gathered.{joining, owed_call, JoinsMade, uncredited}
+use Rattle.scope_laws.proofs.Joining.{made_more, passed_joins, thrown_joins}
 use Rattle.scope_laws.proofs.Settling.{Settles, passed_settles, thrown_closes}
-use Rattle.scope_laws.proofs.Standings.{holds, taken, head, back, wakes, wakes_sound, rouses, AreDue, due_woken, due_leads, places, makes_other}
-use Rattle.scope_laws.proofs.Calls.{closed_in, Ends, Does, quiet, dropped, halts_does, in_new_does, told_head, told_back, told_parked, others_awake, after_does, woken_if_leads, ends_leads, own_call_does, entered_closes}
+use Rattle.scope_laws.proofs.Standings.{holds, taken, head, back, wakes, wakes_sound, rouses, AreDue, due_woken, due_leads, places, makes_other, forgives}
+use Rattle.scope_laws.proofs.Calls.{closed_in, Ends, Does, quiet, dropped, halts_does, in_new_does, told_head, told_back, told_parked, others_awake, after_does, woken_if_leads, ends_leads, own_call_does, entered_closes, entered_joins}
 
 -- ## How a move begins
 
@@ -65,26 +69,57 @@ hand_of (doing.Calls g call) = g ∷ []
 hand_of (doing.Carries g writer) = g ∷ []
 hand_of other = []
 
-abbrev pub ClosesDoing : (bound : ℕ) → Doing → Type 0
-ClosesDoing bound (doing.Calls g call) = ClosesCall bound call
-ClosesDoing bound other = Unit {0}
+abbrev pub ClosesDoing : (switches groups : ℕ) → Doing → Type 0
+ClosesDoing s n (doing.Calls g call) = ClosesCall s call × JoinsMade n call
+ClosesDoing s n other = Unit {0}
+
+-- a call at the end of the caller's own branch owes that end to the group
+abbrev pub debts_of : Doing → List ℕ
+debts_of (doing.Calls g call) = owed_call call
+debts_of other = []
+
+abbrev pub view_by : Doing → DomainState → View
+view_by what l = owing_view (debts_of what) l
+
+abbrev pub view_of : Prepared → View
+view_of it = view_by it.doing it.state
 
 -- the fiber that calls is in hand, and closes only a switch that was opened
 pub record Prepares (v : View) (it : Prepared) : Type 0 where
-  pub goes : Goes v (hand_of it.doing) (view it.state)
-  pub call : ClosesDoing (length it.state.switches) it.doing
+  pub goes : Goes v (hand_of it.doing) (view_of it)
+  pub call : ClosesDoing (length it.state.switches) (length it.state.groups) it.doing
 
-next_settles : (bound : ℕ) (next : Next) (off : Option Plain) (fiber : Fiber) (c : Carry) → Closes bound fiber.work → ClosesNext bound next → Settles bound (next_call next off fiber c)
-next_settles bound (GoesOn it) off fiber c h call = passed_settles bound it fiber.work c h
-next_settles bound LooksUp (Some why) fiber c h call = thrown_closes bound fiber.work _ _ h
-next_settles bound LooksUp None fiber c h call = passed_settles bound (outcome.Ok value.Unit) fiber.work c h
-next_settles bound FindsOff off fiber c h call = thrown_closes bound fiber.work _ _ h
-next_settles bound (CallsAgain again) off fiber c h call = (call, h)
+next_settles : (bound groups : ℕ) (next : Next) (off : Option Plain) (fiber : Fiber) (c : Carry) → Closes bound fiber.work → ClosesNext bound groups next → Settles bound (next_call next off fiber c)
+next_settles bound groups (GoesOn it) off fiber c h call = passed_settles bound it fiber.work c h
+next_settles bound groups LooksUp (Some why) fiber c h call = thrown_closes bound fiber.work _ _ h
+next_settles bound groups LooksUp None fiber c h call = passed_settles bound (outcome.Ok value.Unit) fiber.work c h
+next_settles bound groups FindsOff off fiber c h call = thrown_closes bound fiber.work _ _ h
+next_settles bound groups (CallsAgain repeated) off fiber c h call = (call.0, h)
 
-next_closes : (bound : ℕ) (standing : Standing) → ClosesStanding bound standing → ClosesNext bound (next_of standing)
-next_closes bound (Ready next) h = h
-next_closes bound (Parked wait) h = tt
-next_closes bound (Ended it) h = tt
+again_owes : (bound : ℕ) (call : Ask) → JoinsCall bound call → owed_call call ≡ []
+again_owes bound (ask.Join group None) h = refl
+again_owes bound (ask.Join group (Some result)) h = absurd h
+again_owes bound call h = refl
+
+again_made : (bound : ℕ) (call : Ask) → JoinsCall bound call → JoinsMade bound call
+again_made bound (ask.Join group None) h = h
+again_made bound (ask.Join group (Some result)) h = tt
+again_made bound call h = tt
+
+-- what the next call ends was marked in the fiber's work
+next_joins : (n bound groups : ℕ) (next : Next) (off : Option Plain) (fiber : Fiber) (c : Carry) → ClosesNext bound groups next
+    → (joining n (next_call next off fiber c).behind + times n (owed_call (next_call next off fiber c).call) ≤ joining n fiber.work) × JoinsMade groups (next_call next off fiber c).call
+next_joins n bound groups (GoesOn it) off fiber c call = let joins = passed_joins n it fiber.work c in (joins.0, made_more 0 groups (omega arith) _ joins.1)
+next_joins n bound groups LooksUp (Some why) fiber c call = let joins = thrown_joins n fiber.work _ _ in (joins.0, made_more 0 groups (omega arith) _ joins.1)
+next_joins n bound groups LooksUp None fiber c call = let joins = passed_joins n (outcome.Ok value.Unit) fiber.work c in (joins.0, made_more 0 groups (omega arith) _ joins.1)
+next_joins n bound groups FindsOff off fiber c call = let joins = thrown_joins n fiber.work _ _ in (joins.0, made_more 0 groups (omega arith) _ joins.1)
+next_joins n bound groups (CallsAgain repeated) off fiber c call =
+    let none : times n (owed_call repeated) ≡ 0 = ap (times n) (again_owes groups repeated call.1) in (omega (arith, none), again_made groups repeated call.1)
+
+next_closes : (bound groups : ℕ) (standing : Standing) → ClosesStanding bound groups standing → ClosesNext bound groups (next_of standing)
+next_closes bound groups (Ready next) h = h
+next_closes bound groups (Parked wait) h = tt
+next_closes bound groups (Ended it) h = tt
 
 -- the head of the ready list, and the others behind it
 module _ (g : ℕ) (others : List ℕ) (l : DomainState) (is : l.ready ≡ g ∷ others) (h : Sound [] (view l)) where
@@ -98,11 +133,12 @@ module _ (g : ℕ) (others : List ℕ) (l : DomainState) (is : l.ready ≡ g ∷
   called_prepares =
       let fiber : Fiber = fiber_at l.fibers g in
       let settled : Settled = next_call (next_of fiber.standing) (off_for without_it g) fiber (carry_of fiber without_it) in
-      let it : Settles (length l.switches) settled =
-      next_settles (length l.switches) (next_of fiber.standing) (off_for without_it g) fiber (carry_of fiber without_it) (h.marks g) (next_closes (length l.switches) fiber.standing (h.calls g)) in
+      let closes : ClosesNext (length l.switches) (length l.groups) (next_of fiber.standing) = next_closes (length l.switches) (length l.groups) fiber.standing (h.calls g) in
+      let it : Settles (length l.switches) settled = next_settles (length l.switches) (length l.groups) (next_of fiber.standing) (off_for without_it g) fiber (carry_of fiber without_it) (h.marks g) closes in
+      let joins = λ (n : ℕ). next_joins n (length l.switches) (length l.groups) (next_of fiber.standing) (off_for without_it g) fiber (carry_of fiber without_it) closes in
       record {
-        goes = both in_hand (λ k. places (record fiber { work = settled.behind; variables = settled.carry.variables }) g (g ∷ []) (view without_it) refl refl it.1 k);
-        call = it.0;
+        goes = both in_hand (λ k. places (record fiber { work = settled.behind; variables = settled.carry.variables }) g (g ∷ []) (view without_it) (owed_call settled.call) refl refl it.1 (λ n. omega (arith, (joins n).0)) k);
+        call = (it.0, (joins 0).1);
       }
 
   moves_prepares : (role : Role) → Prepares (view l) (moves_of role g (fiber_at l.fibers g) (next_of (fiber_at l.fibers g).standing) without_it)
@@ -284,19 +320,19 @@ job_leads script job number l h = by (contexts.root l.contexts).number
     by None = stays [] (view l) h
     by (Some c) =
         let m : DomainState = made c (OfJob job.executor number) (begun (block_numbered script job.node) (take job.count job.given)) (record l { contexts = (contexts.root l.contexts).contexts }) in
-        both (makes_other _ [] (view l) tt tt tt (of_job job.executor number) h) (λ k. back (GoesOn (outcome.Ok value.Unit)) (length l.fibers) [] (view m) tt k)
+        both (makes_other _ [] (view l) [] tt tt tt (of_job job.executor number) (uncredited _ l.fibers l.groups [] (λ n. refl) (λ n. refl)) h) (λ k. back (GoesOn (outcome.Ok value.Unit)) (length l.fibers) [] (view m) tt k)
 
 -- what is left once a move has ended
 pub record Keeps (v : View) (step : Step) : Type 0 where
   pub sound : Sound [] (view step.state)
-  pub finished : (n : ℕ) → IsFinished v.switches n → IsFinished step.state.switches n
+  pub finished : (n : Scope) → IsOver v.switches v.groups n → IsOver step.state.switches step.state.groups n
   pub closes : (n : ℕ) → closed_in step.did step.reply ≡ Some n → IsFinished step.state.switches n
 
 pub kept : (v : View) (step : Step) → Ends v step → Keeps v step
 kept v step it = record { sound = it.goes.sound; finished = it.goes.finished; closes = it.closes }
 
 -- a fiber that waits for an object is resumed
-resumes_sound : (next : Next) (g : ℕ) (l : DomainState) → WaitsOnObject (fiber_at l.fibers g).standing → ClosesNext (length l.switches) next → Sound [] (view l) → Sound [] (view (to_back next g l))
+resumes_sound : (next : Next) (g : ℕ) (l : DomainState) → WaitsOnObject (fiber_at l.fibers g).standing → ClosesNext (length l.switches) (length l.groups) next → Sound [] (view l) → Sound [] (view (to_back next g l))
 resumes_sound next g l waits call h = wakes_sound next g [] (view l) (OnObject waits.0) waits.1 (object_awake waits.0) call h
 
 pub received_keeps : (script : Script) (v : View) (mine : Option Message) (step : Step) → ResumesWaiting step.state mine → Ends v step → Keeps v (with_message script mine step)
@@ -305,7 +341,7 @@ received_keeps script v (Some (message.Resume who result stamp)) step waits it =
     record { sound = resumes_sound (GoesOn result) who.fiber step.state waits tt it.goes.sound; finished = it.goes.finished; closes = it.closes }
 received_keeps script v (Some (message.Start job number stamp)) step waits it =
     let more = job_leads script job number step.state it.goes.sound in
-    record { sound = more.sound; finished = (λ n is. more.finished n (it.goes.finished n is)); closes = (λ n is. more.finished n (it.closes n is)) }
+    record { sound = more.sound; finished = (λ n is. more.finished n (it.goes.finished n is)); closes = (λ n is. more.finished (OnSwitch n) (it.closes n is)) }
 
 pub takes_keeps : (script : Script) (it : Message) (l : DomainState) → ResumesWaiting l (Some it) → Sound [] (view l) → Keeps (view l) (on_ends.takes script it l)
 takes_keeps script (message.Resume who result stamp) l waits h =
@@ -383,11 +419,13 @@ bytes_leads writer [] hand l = stays hand (view l)
 bytes_leads writer (b ∷ bytes) hand l = wakes_copier_leads writer hand l
 
 -- a fiber goes into the block of its call, in the context in which it is
-goes_into_leads : (call : Ask) (number : ℕ) (it : Said) (g : ℕ) (hand : List ℕ) (l : DomainState) → ((block : Block) → call ≡ ask.Switch block → ⊥) → Leads (g ∷ hand) (view l) hand (view (on_mocks.goes_into call number it g l).state)
-goes_into_leads call number it g hand l isnt h =
+goes_into_leads : (call : Ask) (number : ℕ) (it : Said) (g : ℕ) (hand : List ℕ) (l : DomainState) → ((block : Block) → call ≡ ask.Switch block → ⊥) → ((group : syntax.Group) (blocks : List Block) → call ≡ ask.Branches group blocks → ⊥)
+    → Leads (g ∷ hand) (view l) hand (view (on_mocks.goes_into call number it g l).state)
+goes_into_leads call number it g hand l isnt branches h =
     let position : Position = on_contexts.before_block call number g l in
-    both (places (record (fiber_at l.fibers g) { work = position.work; variables = position.variables }) g (g ∷ hand) (view l) refl refl
-    (entered_closes (length l.switches) call number (fiber_at l.fibers g).work (fiber_at l.fibers g).variables (λ block is. absurd (isnt block is)) (h.marks g)) h)
+    both (places (record (fiber_at l.fibers g) { work = position.work; variables = position.variables }) g (g ∷ hand) (view l) [] refl refl
+    (entered_closes (length l.switches) call number (fiber_at l.fibers g).work (fiber_at l.fibers g).variables (λ block is. absurd (isnt block is)) (h.marks g))
+    (λ n. omega (arith, entered_joins n call number (fiber_at l.fibers g).work (fiber_at l.fibers g).variables branches)) h)
     (λ k. head (GoesOn (outcome.Ok value.Unit)) g hand (view (placed position g l)) tt k)
 
 of_writer : (writer n : ℕ) (daemon : Bool) → OfWriter writer ≡ OfSwitch n daemon → ⊥
@@ -405,9 +443,9 @@ opens_writer_does flow block number it g l =
     let new : ℕ = length l.fibers in
     let t : DomainState = made c (OfWriter number) (record { work = []; variables = [] }) m in
     let step : Step = on_mocks.goes_into call number it g t in
-    quiet _ _ refl (both (makes_other _ (g ∷ []) (view m) tt tt tt (of_writer number) h)
+    quiet _ _ refl (both (makes_other _ (g ∷ []) (view m) [] tt tt tt (of_writer number) (uncredited _ m.fibers m.groups [] (λ n. refl) (λ n. refl)) h)
     (λ k. both (holds (new ∷ g ∷ []) (g ∷ new ∷ []) (view t) (λ x. omega arith) k)
-    (λ i. both (goes_into_leads call number it g (new ∷ []) t (λ b is. (cc)) i) (λ j. head (GoesOn (outcome.Ok value.Unit)) new [] (view step.state) tt j))))))
+    (λ i. both (goes_into_leads call number it g (new ∷ []) t (λ b is. (cc)) (λ k bs is. (cc)) i) (λ j. head (GoesOn (outcome.Ok value.Unit)) new [] (view step.state) tt j))))))
 
 passing_does : (result : Option Outcome) (given : Value) (it : Said) (g : ℕ) (l : DomainState) → Does g (view l) (elim result as (λ _. Step) [
   | Some result ↦ steps.told g (did.Mock it) (said.Done given) (to_head (GoesOn result) g l)
@@ -417,24 +455,37 @@ passing_does (Some result) given it g l = told_head _ _ _ g l refl tt
 passing_does None given it g l = told_head _ _ _ g l refl tt
 
 done_by_does : (call : Ask) (given : Value) (it : Said) (g : ℕ) (l : DomainState) → Does g (view l) (on_mocks.done_by call given it g l)
-done_by_does (ask.OpenReader flow limit block) given it g l = λ h. quiet _ _ refl (goes_into_leads (ask.OpenReader flow limit block) (number_in given) it g [] l (λ b is. (cc)) h)
-done_by_does (ask.OpenDirectory place path block) given it g l = λ h. quiet _ _ refl (goes_into_leads (ask.OpenDirectory place path block) (number_in given) it g [] l (λ b is. (cc)) h)
+done_by_does (ask.OpenReader flow limit block) given it g l = λ h. quiet _ _ refl (goes_into_leads (ask.OpenReader flow limit block) (number_in given) it g [] l (λ b is. (cc)) (λ k bs is. (cc)) h)
+done_by_does (ask.OpenDirectory place path block) given it g l = λ h. quiet _ _ refl (goes_into_leads (ask.OpenDirectory place path block) (number_in given) it g [] l (λ b is. (cc)) (λ k bs is. (cc)) h)
 done_by_does (ask.OpenWriter flow block) given it g l = opens_writer_does flow block (number_in given) it g l
 done_by_does (ask.PutText writer text) given it g l =
     λ h. after_does (g ∷ []) (view l) _ _ (bytes_leads writer (text_at l.texts text) (g ∷ []) l h) (told_head _ _ _ g (on_mocks.wakes_by_bytes writer (text_at l.texts text) l) refl tt)
 done_by_does call given it g l = passing_does (passing call) given it g l
 
-waits_by_does : (call : Ask) (g : ℕ) (l : DomainState) → ClosesCall (length l.switches) call → Does g (view l) (on_mocks.waits_by call g l)
-waits_by_does (ask.ShutWriter writer result) g l closes =
-    λ h. after_does (g ∷ []) (view l) _ _ (wakes_copier_leads writer (g ∷ []) l h) (told_parked _ _ (ForOthers (ask.ShutWriter writer result)) g (on_mocks.wakes_copier writer l) refl (others_awake _) tt)
-waits_by_does call g l closes = told_parked _ _ (ForOthers call) g l refl (others_awake call) closes
+-- no call at the end of a branch is one on the mocked outside
+abbrev JoinsNone : Ask → Type 0
+JoinsNone (ask.Join n own) = ⊥
+JoinsNone call = Unit {0}
 
-mock_answered_does : (call : Ask) (given : Extra) (g : ℕ) (l : DomainState) → ClosesCall (length l.switches) call → Does g (view l) (on_mocks.mock_answered call given g l)
-mock_answered_does call (extra.Done given it) g l closes = done_by_does call given it g l
-mock_answered_does call (extra.More it) g l closes = told_head _ _ (CallsAgain call) g l refl closes
-mock_answered_does call extra.Back g l closes = told_back _ _ (CallsAgain call) g l refl closes
-mock_answered_does call extra.Waits g l closes = waits_by_does call g l closes
-mock_answered_does call (extra.Raised raised it) g l closes = raised_given_does (did.Mock it) raised g l (λ reply. refl)
+asked_joins_none : (call : Ask) (g : ℕ) (l : DomainState) (asked : MockAsked) → asks_for call g l ≡ Mocks asked → JoinsNone call
+asked_joins_none (ask.Join n own) g l asked is = absurd (cc)
+asked_joins_none call g l asked is = tt
+
+none_again : (bound : ℕ) (call : Ask) → JoinsNone call → JoinsCall bound call
+none_again bound (ask.Join n own) none = absurd none
+none_again bound call none = tt
+
+waits_by_does : (call : Ask) (g : ℕ) (l : DomainState) → ClosesCall (length l.switches) call → JoinsCall (length l.groups) call → Does g (view l) (on_mocks.waits_by call g l)
+waits_by_does (ask.ShutWriter writer result) g l closes joins =
+    λ h. after_does (g ∷ []) (view l) _ _ (wakes_copier_leads writer (g ∷ []) l h) (told_parked _ _ (ForOthers (ask.ShutWriter writer result)) g (on_mocks.wakes_copier writer l) refl (others_awake _) (tt, tt))
+waits_by_does call g l closes joins = told_parked _ _ (ForOthers call) g l refl (others_awake call) (closes, joins)
+
+mock_answered_does : (call : Ask) (given : Extra) (g : ℕ) (l : DomainState) → ClosesCall (length l.switches) call → JoinsCall (length l.groups) call → Does g (view l) (on_mocks.mock_answered call given g l)
+mock_answered_does call (extra.Done given it) g l closes joins = done_by_does call given it g l
+mock_answered_does call (extra.More it) g l closes joins = told_head _ _ (CallsAgain call) g l refl (closes, joins)
+mock_answered_does call extra.Back g l closes joins = told_back _ _ (CallsAgain call) g l refl (closes, joins)
+mock_answered_does call extra.Waits g l closes joins = waits_by_does call g l closes joins
+mock_answered_does call (extra.Raised raised it) g l closes joins = raised_given_does (did.Mock it) raised g l (λ reply. refl)
 
 resting_awake : Resting ≡ Asleep → ⊥
 resting_awake e = cc
@@ -448,21 +499,26 @@ carried_does writer other g l = told_parked _ _ Resting g l refl resting_awake t
 
 -- ## The move
 
-unmoved_does : (what : Doing) (l : DomainState) → Sound (hand_of what) (view l) → Ends (view l) (unmoved l)
-unmoved_does what l h = quiet _ _ refl (dropped (hand_of what) (view l) h)
+-- what was owed is dropped
+pub forgotten : (what : Doing) (l : DomainState) → Leads (hand_of what) (view_by what l) (hand_of what) (view l)
+forgotten what l = forgives [] (hand_of what) (view_by what l) (λ n. omega arith)
 
-pub own_ends : (script : Script) (what : Doing) (l : DomainState) → ClosesDoing (length l.switches) what → Sound (hand_of what) (view l) → Ends (view l) (own_move script (at_once what l))
+unmoved_does : (what : Doing) (l : DomainState) → Sound (hand_of what) (view_by what l) → Ends (view_by what l) (unmoved l)
+unmoved_does what l h = quiet _ _ refl (both (forgotten what l h) (dropped (hand_of what) (view l)))
+
+pub own_ends : (script : Script) (what : Doing) (l : DomainState) → ClosesDoing (length l.switches) (length l.groups) what → Sound (hand_of what) (view_by what l) → Ends (view_by what l) (own_move script (at_once what l))
 own_ends script doing.Rests l closes h = unmoved_does doing.Rests l h
 own_ends script (doing.Owes duty) l closes h = own_duty_moves duty.maker duty.owed l h
-own_ends script (doing.Calls g call) l closes h = own_call_does script call g l closes h
+own_ends script (doing.Calls g call) l closes h = own_call_does script call g l closes.0 closes.1 h
 own_ends script (doing.Carries g writer) l closes h = unmoved_does (doing.Carries g writer) l h
 own_ends script doing.Ticks l closes h = tick_moves l h
 
-pub called_ends : (what : Doing) (l : DomainState) (asked : Asked) (given : Answer) → Sound (hand_of what) (view l) → Ends (view l) (called_move (at_once what l) asked given)
+pub called_ends : (what : Doing) (l : DomainState) (asked : Asked) (given : Answer) → Sound (hand_of what) (view_by what l) → Ends (view_by what l) (called_move (at_once what l) asked given)
 called_ends doing.Rests l asked given h = unmoved_does doing.Rests l h
 called_ends (doing.Owes duty) l asked given h = duty_answered_moves duty.maker duty.owed given l h
 called_ends (doing.Calls g call) l asked given h =
-    let role : Role = (fiber_at l.fibers g).role in answered_does call role (on_objects.did_ask call role) asked given g l (asked_quiet call role) h
+    let role : Role = (fiber_at l.fibers g).role in
+    after_does (g ∷ []) (view_by (doing.Calls g call) l) (view l) _ (forgotten (doing.Calls g call) l h) (answered_does call role (on_objects.did_ask call role) asked given g l (asked_quiet call role))
 called_ends (doing.Carries g writer) l asked given h = unmoved_does (doing.Carries g writer) l h
 called_ends doing.Ticks l asked given h = unmoved_does doing.Ticks l h
 
@@ -470,25 +526,20 @@ abbrev pub DoingStrikes : DomainState → Doing → Type 0
 DoingStrikes l (doing.Owes duty) = StrikesWaiting l duty.owed
 DoingStrikes l other = Unit {0}
 
-pub struck_keeps : (what : Doing) (l : DomainState) (won : Bool) → DoingStrikes l what → Sound (hand_of what) (view l) → Keeps (view l) (struck_move (at_once what l) won)
+pub struck_keeps : (what : Doing) (l : DomainState) (won : Bool) → DoingStrikes l what → Sound (hand_of what) (view_by what l) → Keeps (view_by what l) (struck_move (at_once what l) won)
 struck_keeps doing.Rests l won waits h = kept _ _ (unmoved_does doing.Rests l h)
 struck_keeps (doing.Owes duty) l won waits h = duty_struck_keeps duty.maker duty.owed won l waits h
 struck_keeps (doing.Calls g call) l won waits h = kept _ _ (unmoved_does (doing.Calls g call) l h)
 struck_keeps (doing.Carries g writer) l won waits h = kept _ _ (unmoved_does (doing.Carries g writer) l h)
 struck_keeps doing.Ticks l won waits h = kept _ _ (unmoved_does doing.Ticks l h)
 
-pub mocked_ends : (what : Doing) (l : DomainState) (given : Extra) (m : DomainState) → view m ≡ view l → ClosesDoing (length l.switches) what → Sound (hand_of what) (view l) → Ends (view l) (mocked_by (at_once what l) given m)
-mocked_ends what l given m same closes h = subst (λ (v : View). Ends v (mocked_by (at_once what l) given m)) same (by what closes_m sound_m)
-  where
-    closes_m : ClosesDoing (length m.switches) what
-    closes_m = subst (λ (v : View). ClosesDoing (length v.switches) what) (sym same) closes
-
-    sound_m : Sound (hand_of what) (view m)
-    sound_m = subst (Sound (hand_of what)) (sym same) h
-
-    by : (what : Doing) → ClosesDoing (length m.switches) what → Sound (hand_of what) (view m) → Ends (view m) (mocked_by (at_once what l) given m)
-    by doing.Rests closes h = unmoved_does doing.Rests m h
-    by (doing.Owes duty) closes h = unmoved_does (doing.Owes duty) m h
-    by (doing.Calls g call) closes h = mock_answered_does call given g m closes h
-    by (doing.Carries g writer) closes h = carried_does writer given g m h
-    by doing.Ticks closes h = unmoved_does doing.Ticks m h
+pub mocked_ends : (what : Doing) (l : DomainState) (given : Extra) (texts : List (List ℕ)) (asked : MockAsked) → asks_by (at_once what l) ≡ Mocks asked → ClosesDoing (length l.switches) (length l.groups) what → Sound (hand_of what) (view_by what l)
+    → Ends (view_by what l) (mocked_by (at_once what l) given (record l { texts = texts }))
+mocked_ends doing.Rests l given texts asked is closes h = unmoved_does doing.Rests (record l { texts = texts }) h
+mocked_ends (doing.Owes duty) l given texts asked is closes h = unmoved_does (doing.Owes duty) (record l { texts = texts }) h
+mocked_ends (doing.Calls g call) l given texts asked is closes h =
+    let m : DomainState = record l { texts = texts } in
+    after_does (g ∷ []) (view_by (doing.Calls g call) l) (view m) _ (forgotten (doing.Calls g call) m h)
+    (mock_answered_does call given g m closes.0 (none_again (length l.groups) call (asked_joins_none call g l asked is)))
+mocked_ends (doing.Carries g writer) l given texts asked is closes h = carried_does writer given g (record l { texts = texts }) h
+mocked_ends doing.Ticks l given texts asked is closes h = unmoved_does doing.Ticks (record l { texts = texts }) h

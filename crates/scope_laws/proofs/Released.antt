@@ -31,7 +31,7 @@ use Rattle.scope_laws.proofs.Scopes.{view, is_over, Sound, AddedAt, Last, Before
 use Rattle.scope_laws.proofs.Standings.{let_go, Loose}
 use Rattle.scope_laws.proofs.Calls.{closed_in}
 use Rattle.scope_laws.proofs.Changes.{is_result, close_finishes}
-use Rattle.scope_laws.proofs.Moves.{hand_of, prepares}
+use Rattle.scope_laws.proofs.Moves.{hand_of, forgotten, prepares}
 use Rattle.scope_laws.proofs.Runs.{moved, answers_closed, first_sound, run_keeps}
 use Rattle.scope_laws.proofs.Mocked.{the_move, Fine, move_goes, moves_from, opening_fine, last_fine}
 use Rattle.scope_laws.proofs.Rows.{after_append, brought_append, Quiet, two_calls, hands, close_call}
@@ -201,7 +201,7 @@ module _ (script : Script) (n : ℕ) (seen : Seen) (it : Turned script n seen) w
     stands_after : (handler : Handler) → StandsBefore script n it.step.fiber handler it.step.state → stands handler
     stands_after handler at =
         let fiber : fiber_at seen.after.fibers seen.line.fiber ≡ fiber_at it.step.state.fibers it.step.fiber = ap (λ (g : ℕ). fiber_at seen.after.fibers g) it.fiber ∙ ap (λ (fibers : List Fiber). fiber_at fibers it.step.fiber) it.fibers in
-        record { context = at.context; own = at.own; kept = at.kept; others = at.others; work = ap (λ (f : Fiber). f.work) fiber ∙ at.work; variables = ap (λ (f : Fiber). f.variables) fiber ∙ at.variables }
+        record { context = at.context; own = at.own; kept = at.kept; others = at.others; work = ap (λ (f : Fiber). f.work) fiber ∙ at.work; variables = ap (λ (f : Fiber). f.variables) fiber ∙ at.variables; inside = ap (λ (f : Fiber). f.context) fiber ∙ at.inside; ready = ap (λ (f : Fiber). f.standing) fiber ∙ at.ready }
 
     -- a step of `close` with a result hands nothing out
     result_hands : (step : CloseStep) → is_result step ≡ true → hands step ≡ None
@@ -382,7 +382,7 @@ turns_by script n l label h = by label
     at_first step it = subst (λ (s : List Switch). Turns n script asked_here s step) (prepared_same l).0 it
 
     by : (label : Label) → Turns n script asked_here l.switches (stepped_by script (prepared l) label l)
-    by Inner = at_first _ (own_turns n script (prepared l).doing (prepared l).state (inside_by n (prepared l).doing (prepared l).state (prepares l h).goes.sound))
+    by Inner = at_first _ (own_turns n script (prepared l).doing (prepared l).state (inside_by n (prepared l).doing (prepared l).state (forgotten (prepared l).doing (prepared l).state (prepares l h).goes.sound).sound))
     by (Called asked given mine) = at_first _ (Quietly (called_quiet n script (prepared l).doing (prepared l).state asked given mine))
     by (Struck who won) = at_first _ (Quietly (struck_quiet n (prepared l).doing (prepared l).state won))
     by (Mocked call given texts) = at_first _ (Quietly (mocked_quiet n (prepared l).doing given (prepared l).state (record ((prepared l).state) { texts = texts })))
@@ -449,7 +449,7 @@ module _ (script : Script) (n : ℕ) (m : Mock) (moved : Moved) (h : Sound [] (v
   some_turned None is = absurd (cc)
   some_turned (Some outside) is = came_turned outside (the_move _ moved is)
 
-move_turned : (script : Script) (n : ℕ) (m : Mock) (moved : Moved) → Sound [] (view m.local) → move script m ≡ Some moved → Turned script n (record { before = m.local; line = moved.line; after = moved.next.local })
+pub move_turned : (script : Script) (n : ℕ) (m : Mock) (moved : Moved) → Sound [] (view m.local) → move script m ≡ Some moved → Turned script n (record { before = m.local; line = moved.line; after = moved.next.local })
 unfolding move
 move_turned script n m moved h is = by m.local.halted refl is
   where

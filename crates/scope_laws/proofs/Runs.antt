@@ -24,9 +24,9 @@ use Rattle.machine_model.specs.Runs.{Noted, Fits, LocalRun}
 use Rattle.machine_model.specs.Steps.{Step}
 use Rattle.scope_laws.specs.Finished.{IsResult, Answers, NoneIsLeft, WaitsOnObject, ResumesWaiting, message_in, Moves, LeavesNothing}
 use Rattle.scope_laws.proofs.Counts.{times, Compared, Same, Other, compared, one}
-use Rattle.scope_laws.proofs.Scopes.{Closes, ClosesStanding, IsReady, View, view, attached_to, is_over, Sound, IsFinished, Goes}
+use Rattle.scope_laws.proofs.Scopes.{Closes, ClosesStanding, IsReady, View, view, attached_to, is_over, Sound, IsFinished, Scope, OnSwitch, IsOver, Goes}
 use Rattle.scope_laws.proofs.Calls.{closed_in, Ends, after_does}
-use Rattle.scope_laws.proofs.Moves.{hand_of, Prepares, prepares, Keeps, kept, StrikesWaiting, DoingStrikes, received_keeps, takes_keeps, own_ends, called_ends, struck_keeps, mocked_ends}
+use Rattle.scope_laws.proofs.Moves.{hand_of, view_of, Prepares, prepares, Keeps, kept, StrikesWaiting, DoingStrikes, received_keeps, takes_keeps, own_ends, called_ends, struck_keeps, mocked_ends}
 
 -- ## One move
 
@@ -64,26 +64,26 @@ pub step_keeps : (script : Script) (l : DomainState) (label : Label) → Sound [
 unfolding asks
 step_keeps script l Inner h fits waits =
     let first : Prepares (view l) (prepared l) = prepares l h in
-    kept (view l) _ (after_does (hand_of (prepared l).doing) (view l) (view (prepared l).state) _ first.goes (own_ends script (prepared l).doing (prepared l).state first.call))
+    kept (view l) _ (after_does (hand_of (prepared l).doing) (view l) (view_of (prepared l)) _ first.goes (own_ends script (prepared l).doing (prepared l).state first.call))
 step_keeps script l (Called asked given mine) h fits waits =
     let first : Prepares (view l) (prepared l) = prepares l h in
     let step : Step = called_move (prepared l) asked given in
-    let it : Ends (view l) step = after_does (hand_of (prepared l).doing) (view l) (view (prepared l).state) step first.goes (called_ends (prepared l).doing (prepared l).state asked given) in
+    let it : Ends (view l) step = after_does (hand_of (prepared l).doing) (view l) (view_of (prepared l)) step first.goes (called_ends (prepared l).doing (prepared l).state asked given) in
     received_keeps script (view l) mine step (resumes_later l step mine it waits) it
 step_keeps script l (Struck who won) h fits waits =
     let first : Prepares (view l) (prepared l) = prepares l h in
-    keeps_after (hand_of (prepared l).doing) (view l) (view (prepared l).state) _ first.goes
+    keeps_after (hand_of (prepared l).doing) (view l) (view_of (prepared l)) _ first.goes
     (struck_keeps (prepared l).doing (prepared l).state won (strikes_waiting (prepared l).doing (prepared l).state who fits))
 step_keeps script l (Mocked call given texts) h fits waits =
     let first : Prepares (view l) (prepared l) = prepares l h in
-    kept (view l) _ (after_does (hand_of (prepared l).doing) (view l) (view (prepared l).state) _ first.goes
-    (λ k. mocked_ends (prepared l).doing (prepared l).state given (record ((prepared l).state) { texts = texts }) refl first.call k))
+    kept (view l) _ (after_does (hand_of (prepared l).doing) (view l) (view_of (prepared l)) _ first.goes
+    (λ k. mocked_ends (prepared l).doing (prepared l).state given texts call fits first.call k))
 step_keeps script l (Took it) h fits waits = takes_keeps script it l waits h
 
 -- what is known of a domain after a move
 pub record Moved (l : DomainState) (line : Line) (k : DomainState) : Type 0 where
   pub sound : Sound [] (view k)
-  pub finished : (n : ℕ) → IsFinished l.switches n → IsFinished k.switches n
+  pub finished : (n : Scope) → IsOver l.switches l.groups n → IsOver k.switches k.groups n
   pub closes : (n : ℕ) → closed_in line.did line.reply ≡ Some n → IsFinished k.switches n
 
 pub moved : (script : Script) (l : DomainState) (x : Noted) (k : DomainState) → Moves script l x k → Sound [] (view l) → Moved l x.line k
@@ -133,6 +133,7 @@ opening_sound number texts body = record {
   emptied = (λ n finished. (refl, refl));
   marks = marks_by;
   calls = calls_by;
+  gathered = record { counted = (λ n some. absurd (omega (arith, some))); fresh = (λ n past. refl) };
 }
   where
     ready_by : (x : ℕ) → 0 < times x [] + times x (0 ∷ []) → Compared x 0 → IsReady (fiber_at (opening_domain number texts body).fibers x).standing
@@ -148,7 +149,7 @@ opening_sound number texts body = record {
     marks_by zero = tt
     marks_by (suc x) = tt
 
-    calls_by : (x : ℕ) → ClosesStanding 0 (fiber_at (opening_domain number texts body).fibers x).standing
+    calls_by : (x : ℕ) → ClosesStanding 0 0 (fiber_at (opening_domain number texts body).fibers x).standing
     calls_by zero = tt
     calls_by (suc x) = tt
 
@@ -162,6 +163,7 @@ nothing_sound number texts = record {
   emptied = (λ n finished. (refl, refl));
   marks = (λ x. tt);
   calls = (λ x. tt);
+  gathered = record { counted = (λ n some. absurd (omega (arith, some))); fresh = (λ n past. refl) };
 }
 
 pub first_sound : (script : Script) (d : ℕ) → Sound [] (view (domain_at_first script d))
@@ -173,8 +175,8 @@ first_sound script d = by (slice_get script.bodies d)
 
 -- ## Runs
 
-pub run_keeps : (script : Script) (xs : List Noted) (l k : DomainState) → LocalRun (Moves script) l xs k → Sound [] (view l) → Sound [] (view k) × ((n : ℕ) → IsFinished l.switches n → IsFinished k.switches n)
-run_keeps script [] l k same h = (subst (λ (m : DomainState). Sound [] (view m)) same h, λ n it. subst (λ (m : DomainState). IsFinished m.switches n) same it)
+pub run_keeps : (script : Script) (xs : List Noted) (l k : DomainState) → LocalRun (Moves script) l xs k → Sound [] (view l) → Sound [] (view k) × ((n : Scope) → IsOver l.switches l.groups n → IsOver k.switches k.groups n)
+run_keeps script [] l k same h = (subst (λ (m : DomainState). Sound [] (view m)) same h, λ n it. subst (λ (m : DomainState). IsOver m.switches m.groups n) same it)
 run_keeps script (x ∷ xs) l k it h =
     let first : Moved l x.line it.0 = moved script l x it.0 it.1 h in
     let rest = run_keeps script xs it.0 k it.2 first.sound in
@@ -185,4 +187,4 @@ leaves_nothing script d n xs ys x l k m before it answers after =
     let h : Sound [] (view l) = (run_keeps script xs (domain_at_first script d) l before (first_sound script d)).0 in
     let next : Moved l x.line k = moved script l x k it h in
     let rest = run_keeps script ys k m after next.sound in
-    none_is_left n m rest.0 (rest.1 n (next.closes n (answers_closed n x.line answers)))
+    none_is_left n m rest.0 (rest.1 (OnSwitch n) (next.closes n (answers_closed n x.line answers)))

@@ -2,9 +2,10 @@
 -- A fiber in the ready list is ready, and stands there once; one with a timer sleeps, and has one timer. So nothing that has ended is moved on. A fiber that was
 -- forked onto a switch and lives is attached to it; nothing is attached to a finished switch; and fibers close only switches that were opened.
 -- The fibers in hand are those that a move has taken off the ready list, or made, and not yet put anywhere.
-use Rattle.std.proofs.Common.{◌≡◌, ℕ, zero, suc, ◌+◌, ◌≤◌, ◌<◌, Bool, true, false, List, [], ◌∷◌, ◌++◌, length, refl, sym, ap, subst, arith, slice_set, slice_get}
+use Rattle.std.proofs.Common.{◌≡◌, ℕ, zero, suc, ◌+◌, ◌≤◌, ◌<◌, Bool, true, false, List, [], ◌∷◌, ◌++◌, length, Some, None, refl, sym, ap, subst, arith, slice_set, slice_get}
 use Rattle.std.specs.Prelude.{map, unwrap_or}
 use Rattle.eio_value.specs.declared.message.Waiter.{Waiter}
+use Rattle.row_model.specs.Groups.{Group}
 use Rattle.row_model.specs.Switches.{Switch, switch_at}
 use Rattle.row_model.specs.Timers.{Timer}
 use Rattle.step_model.specs.Asks as ask
@@ -12,6 +13,7 @@ use Rattle.step_model.specs.Asks.{Ask}
 use Rattle.step_model.specs.Work.{Work, Close, Closing}
 use Rattle.machine_model.specs.Domain.{OfSwitch, Next, CallsAgain, Wait, OnObject, Asleep, ForOthers, Standing, Ready, Parked, Ended, Fiber, DomainState, fiber_at}
 use Rattle.scope_laws.proofs.Counts.{times}
+use Rattle.scope_laws.proofs.Gathered.{Gathered, IsJoined}
 
 -- ## Marks of switches
 
@@ -26,18 +28,24 @@ abbrev pub ClosesCall : (bound : ℕ) → Ask → Type 0
 ClosesCall bound (ask.Close switch came kept) = switch < bound
 ClosesCall bound call = Unit {0}
 
-abbrev pub ClosesNext : (bound : ℕ) → Next → Type 0
-ClosesNext bound (CallsAgain call) = ClosesCall bound call
-ClosesNext bound next = Unit {0}
+-- a call that a fiber is to make again, which joins no branch of its own, and only a group that was made
+abbrev pub JoinsCall : (bound : ℕ) → Ask → Type 0
+JoinsCall bound (ask.Join group None) = group < bound
+JoinsCall bound (ask.Join group (Some result)) = ⊥
+JoinsCall bound call = Unit {0}
 
-abbrev pub ClosesWait : (bound : ℕ) → Wait → Type 0
-ClosesWait bound (ForOthers call) = ClosesCall bound call
-ClosesWait bound wait = Unit {0}
+abbrev pub ClosesNext : (switches groups : ℕ) → Next → Type 0
+ClosesNext s n (CallsAgain call) = ClosesCall s call × JoinsCall n call
+ClosesNext s n next = Unit {0}
 
-abbrev pub ClosesStanding : (bound : ℕ) → Standing → Type 0
-ClosesStanding bound (Ready next) = ClosesNext bound next
-ClosesStanding bound (Parked wait) = ClosesWait bound wait
-ClosesStanding bound (Ended it) = Unit {0}
+abbrev pub ClosesWait : (switches groups : ℕ) → Wait → Type 0
+ClosesWait s n (ForOthers call) = ClosesCall s call × JoinsCall n call
+ClosesWait s n wait = Unit {0}
+
+abbrev pub ClosesStanding : (switches groups : ℕ) → Standing → Type 0
+ClosesStanding s n (Ready next) = ClosesNext s n next
+ClosesStanding s n (Parked wait) = ClosesWait s n wait
+ClosesStanding s n (Ended it) = Unit {0}
 
 pub closes_more : (low high : ℕ) → low ≤ high → (work : List Work) → Closes low work → Closes high work
 closes_more low high le [] h = tt
@@ -49,12 +57,17 @@ pub call_more : (low high : ℕ) → low ≤ high → (call : Ask) → ClosesCal
 call_more low high le (ask.Close switch came kept) h = omega (arith, h)
 call_more low high le call h = tt
 
-pub standing_more : (low high : ℕ) → low ≤ high → (standing : Standing) → ClosesStanding low standing → ClosesStanding high standing
-standing_more low high le (Ready (CallsAgain call)) h = call_more low high le call h
-standing_more low high le (Ready next) h = tt
-standing_more low high le (Parked (ForOthers call)) h = call_more low high le call h
-standing_more low high le (Parked wait) h = tt
-standing_more low high le (Ended it) h = tt
+joins_more : (low high : ℕ) → low ≤ high → (call : Ask) → JoinsCall low call → JoinsCall high call
+joins_more low high le (ask.Join group None) h = omega (arith, h)
+joins_more low high le (ask.Join group (Some result)) h = absurd h
+joins_more low high le call h = tt
+
+pub standing_more : (s n s_high n_high : ℕ) → s ≤ s_high → n ≤ n_high → (standing : Standing) → ClosesStanding s n standing → ClosesStanding s_high n_high standing
+standing_more s n s_high n_high le more (Ready (CallsAgain call)) h = (call_more s s_high le call h.0, joins_more n n_high more call h.1)
+standing_more s n s_high n_high le more (Ready next) h = tt
+standing_more s n s_high n_high le more (Parked (ForOthers call)) h = (call_more s s_high le call h.0, joins_more n n_high more call h.1)
+standing_more s n s_high n_high le more (Parked wait) h = tt
+standing_more s n s_high n_high le more (Ended it) h = tt
 
 pub closes_append : (bound : ℕ) (front behind : List Work) → Closes bound front → Closes bound behind → Closes bound (front ++ behind)
 closes_append bound [] behind h k = k
@@ -64,14 +77,20 @@ closes_append bound (mark ∷ front) behind h k = closes_append bound front behi
 
 -- ## The part of a domain that is looked at
 
+-- and the groups in which an end has come that isn't counted yet
 pub record View : Type 0 where
   pub fibers : List Fiber
   pub ready : List ℕ
   pub sleeping : List Timer
   pub switches : List Switch
+  pub groups : List Group
+  pub debts : List ℕ
 
 abbrev pub view : DomainState → View
-view l = record { fibers = l.fibers; ready = l.ready; sleeping = l.timers.standing; switches = l.switches }
+view l = record { fibers = l.fibers; ready = l.ready; sleeping = l.timers.standing; switches = l.switches; groups = l.groups; debts = [] }
+
+abbrev pub owing_view : (debts : List ℕ) → DomainState → View
+owing_view debts l = record { fibers = l.fibers; ready = l.ready; sleeping = l.timers.standing; switches = l.switches; groups = l.groups; debts = debts }
 
 abbrev pub standing_at : View → ℕ → Standing
 standing_at v x = (fiber_at v.fibers x).standing
@@ -102,26 +121,40 @@ pub record Sound (hand : List ℕ) (v : View) : Type 0 where
   pub attached : (n x : ℕ) (daemon : Bool) → (fiber_at v.fibers x).role ≡ OfSwitch n daemon → is_over (standing_at v x) ≡ false → 0 < times x (attached_to daemon (switch_at v.switches n))
   pub emptied : (n : ℕ) → IsEmptied (switch_at v.switches n)
   pub marks : (x : ℕ) → Closes (length v.switches) (fiber_at v.fibers x).work
-  pub calls : (x : ℕ) → ClosesStanding (length v.switches) (standing_at v x)
+  pub calls : (x : ℕ) → ClosesStanding (length v.switches) (length v.groups) (standing_at v x)
+  pub gathered : Gathered v.fibers v.groups v.debts
 
 -- a switch that was opened has finished
 pub record IsFinished (switches : List Switch) (n : ℕ) : Type 0 where
   pub opened : n < length switches
   pub finished : (switch_at switches n).finished ≡ true
 
+-- a switch or a group; or the number of a switch that was opened
+pub data Scope : Type 0 where
+  OnSwitch : (switch : ℕ) → Scope
+  OnGroup : (group : ℕ) → Scope
+  IsOpened : (switch : ℕ) → Scope
+
+-- a scope that is over stays so
+abbrev pub IsOver : List Switch → List Group → Scope → Type 0
+IsOver switches groups (OnSwitch n) = IsFinished switches n
+IsOver switches groups (OnGroup n) = IsJoined groups n
+IsOver switches groups (IsOpened n) = n < length switches
+
 -- what a part of a move leaves
 pub record Goes (v : View) (next : List ℕ) (w : View) : Type 0 where
   pub sound : Sound next w
   pub waits : (x : ℕ) (who : Waiter) → standing_at v x ≡ Parked (OnObject who) → standing_at w x ≡ Parked (OnObject who)
-  pub finished : (n : ℕ) → IsFinished v.switches n → IsFinished w.switches n
+  pub finished : (n : Scope) → IsOver v.switches v.groups n → IsOver w.switches w.groups n
   pub made : length v.switches ≤ length w.switches
+  pub gathers : length v.groups ≤ length w.groups
 
 -- a part of a move leads from here to there
 abbrev pub Leads : (hand : List ℕ) → View → (next : List ℕ) → View → Type 0
 Leads hand v next w = Sound hand v → Goes v next w
 
 pub stays : (hand : List ℕ) (v : View) → Leads hand v hand v
-stays hand v h = record { sound = h; waits = (λ x who is. is); finished = (λ n it. it); made = omega arith }
+stays hand v h = record { sound = h; waits = (λ x who is. is); finished = (λ n it. it); made = omega arith; gathers = omega arith }
 
 pub both : {mid next : List ℕ} {v u w : View} → Goes v mid u → (Sound mid u → Goes u next w) → Goes v next w
 both first second =
@@ -131,6 +164,7 @@ both first second =
       waits = (λ x who is. rest.waits x who (first.waits x who is));
       finished = (λ n it. rest.finished n (first.finished n it));
       made = omega (arith, first.made, rest.made);
+      gathers = omega (arith, first.gathers, rest.gathers);
     }
 
 -- ## Places of a list

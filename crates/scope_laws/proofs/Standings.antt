@@ -6,12 +6,14 @@ use Rattle.std.proofs.lemmas.Bool.{both_ways}
 use Rattle.std.proofs.lemmas.List.{length-append}
 use Rattle.eio_value.specs.declared.message.Waiter.{Waiter}
 use Rattle.eio_value.specs.declared.raised.Outcome.{Outcome}
+use Rattle.row_model.specs.Groups.{Group, group_at, never_gathered}
 use Rattle.row_model.specs.Switches.{Switch, opened, switch_at, never_opened}
 use Rattle.row_model.specs.Timers as timers
 use Rattle.row_model.specs.Timers.{Timer}
 use Rattle.machine_model.specs.Domain.{OfSwitch, Next, Wait, OnObject, Asleep, Resting, Standing, Ready, Parked, Ended, Fiber, fiber_at, never_made}
 use Rattle.scope_laws.proofs.Counts.{times, times_append, Compared, Same, Other, compared, one, one_self}
-use Rattle.scope_laws.proofs.Scopes.{Closes, closes_more, standing_more, ClosesNext, ClosesWait, ClosesStanding, View, standing_at, sleepers, attached_to, is_over, IsReady, IsEmptied, Sound, Goes, Leads, stays, both, SetAt, Here, There, set_at, set_same, set_other, set_length, set_keeps, AddedAt, Last, Before, added_at, added_last, past, within}
+use Rattle.scope_laws.proofs.Gathered.{member, live_as, live_in, joining, lives, owns, live_most, live_same, shifted, set_gathered, owed_by, ended_gathered, Credited, made_gathered, IsJoined}
+use Rattle.scope_laws.proofs.Scopes.{Closes, closes_more, standing_more, ClosesNext, ClosesWait, ClosesStanding, View, standing_at, sleepers, attached_to, is_over, IsReady, IsEmptied, Sound, Scope, OnSwitch, OnGroup, IsOpened, IsOver, Goes, Leads, stays, both, SetAt, Here, There, set_at, set_same, set_other, set_length, set_keeps, AddedAt, Last, Before, added_at, added_last, past, within}
 
 -- ## Words
 
@@ -52,10 +54,12 @@ holds hand next v fewer h = record {
     emptied = h.emptied;
     marks = h.marks;
     calls = h.calls;
+    gathered = h.gathered;
   };
   waits = (λ x who is. is);
   finished = (λ n it. it);
   made = omega arith;
+  gathers = omega arith;
 }
 
 -- the head of the ready list is taken in hand
@@ -72,10 +76,12 @@ taken g others v is h =
         emptied = h.emptied;
         marks = h.marks;
         calls = h.calls;
+        gathered = h.gathered;
       };
       waits = (λ x who is. is);
       finished = (λ n it. it);
       made = omega arith;
+      gathers = omega arith;
     }
 
 -- some that were in hand stand first in the ready list
@@ -93,10 +99,12 @@ listed first next v h =
         emptied = h.emptied;
         marks = h.marks;
         calls = h.calls;
+        gathered = h.gathered;
       };
       waits = (λ x who is. is);
       finished = (λ n it. it);
       made = omega arith;
+      gathers = omega arith;
     }
 
 -- some timers are gone
@@ -111,10 +119,12 @@ fewer_sleep hand v sleeping fewer h = record {
     emptied = h.emptied;
     marks = h.marks;
     calls = h.calls;
+    gathered = h.gathered;
   };
   waits = (λ x who is. is);
   finished = (λ n it. it);
   made = omega arith;
+  gathers = omega arith;
 }
 
 -- ## A fiber that stands nowhere
@@ -158,6 +168,15 @@ parked_loose hand v g wait is awake h = record {
     awake_by zero e = refl
     awake_by (suc n) e = absurd (awake (ap wait_in (sym is ∙ h.asleep g (omega (arith, e)))))
 
+-- a fiber that lives counts for its group
+lived : (n : ℕ) (f : Fiber) → is_over f.standing ≡ false → live_in n f ≡ member n f.role
+lived n f = by f.standing
+  where
+    by : (standing : Standing) → is_over standing ≡ false → live_as n f.role standing ≡ member n f.role
+    by (Ready next) is = refl
+    by (Parked wait) is = refl
+    by (Ended it) is = absurd (cc)
+
 -- ## Its standing changes
 
 abbrev restood : Fiber → Standing → Fiber
@@ -177,13 +196,14 @@ module _ (hand : List ℕ) (v : View) (g : ℕ) (f : Fiber) (h : Sound hand v) (
   restood_sound : (ready : List ℕ) (sleeping : List Timer)
       → f.role ≡ (fiber_at v.fibers g).role
       → Closes (length v.switches) f.work
-      → ClosesStanding (length v.switches) f.standing
+      → ((n : ℕ) → joining n f.work ≤ joining n (fiber_at v.fibers g).work)
+      → ClosesStanding (length v.switches) (length v.groups) f.standing
       → ((x : ℕ) → (x ≡ g → ⊥) → one x g ≡ 0 → times x hand + times x ready ≡ times x hand + times x v.ready)
       → (times g hand + times g ready ≤ 1) × (0 < times g hand + times g ready → IsReady f.standing)
       → ((x : ℕ) → (x ≡ g → ⊥) → one x g ≡ 0 → times x (sleepers sleeping) ≤ times x (sleepers v.sleeping))
       → (times g (sleepers sleeping) ≤ 1) × (0 < times g (sleepers sleeping) → f.standing ≡ Parked Asleep)
-      → Sound hand (record { fibers = with_it; ready = ready; sleeping = sleeping; switches = v.switches })
-  restood_sound ready sleeping role work standing others own others_sleep own_sleep = record {
+      → Sound hand (record { fibers = with_it; ready = ready; sleeping = sleeping; switches = v.switches; groups = v.groups; debts = v.debts })
+  restood_sound ready sleeping role work joins standing others own others_sleep own_sleep = record {
     once = (λ x. once_by x (compared x g));
     ready = (λ x. ready_by x (compared x g));
     slept = (λ x. slept_by x (compared x g));
@@ -191,9 +211,16 @@ module _ (hand : List ℕ) (v : View) (g : ℕ) (f : Fiber) (h : Sound hand v) (
     attached = (λ n x daemon. attached_by n x daemon (compared x g));
     emptied = h.emptied;
     marks = (λ x. set_keeps (λ (k : Fiber). Closes (length v.switches) k.work) never_made v.fibers g x f (λ old. work) (h.marks x));
-    calls = (λ x. set_keeps (λ (k : Fiber). ClosesStanding (length v.switches) k.standing) never_made v.fibers g x f (λ old. standing) (h.calls x));
+    calls = (λ x. set_keeps (λ (k : Fiber). ClosesStanding (length v.switches) (length v.groups) k.standing) never_made v.fibers g x f (λ old. standing) (h.calls x));
+    gathered = set_gathered v.fibers v.groups v.debts v.debts g f (λ n. omega (arith, live_most n f.role f.standing, lived_as n, same_member n)) (λ n. omega (arith, joins n)) h.gathered;
   }
     where
+      same_member : (n : ℕ) → member n f.role ≡ member n (fiber_at v.fibers g).role
+      same_member n = ap (member n) role
+
+      lived_as : (n : ℕ) → live_in n (fiber_at v.fibers g) ≡ member n (fiber_at v.fibers g).role
+      lived_as n = lived n (fiber_at v.fibers g) loose.lives
+
       once_by : (x : ℕ) → Compared x g → times x hand + times x ready ≤ 1
       once_by x (Same same is_one) = subst (λ (n : ℕ). times n hand + times n ready ≤ 1) (sym same) own.0
       once_by x (Other differs none) = omega (arith, others x differs none, h.once x)
@@ -232,25 +259,25 @@ module _ (hand : List ℕ) (v : View) (g : ℕ) (f : Fiber) (h : Sound hand v) (
 -- ## Into the ready list
 
 -- whoever stood nowhere is ready from now on, at one end of the list
-module _ (next : Next) (g : ℕ) (hand : List ℕ) (v : View) (h : Sound hand v) (loose : Loose hand v g) (call : ClosesNext (length v.switches) next) where
+module _ (next : Next) (g : ℕ) (hand : List ℕ) (v : View) (h : Sound hand v) (loose : Loose hand v g) (call : ClosesNext (length v.switches) (length v.groups) next) where
   abbrev stood : Fiber
   stood = restood (fiber_at v.fibers g) (Ready next)
 
   head_sound : Sound hand (record v { fibers = slice_set v.fibers g stood; ready = g ∷ v.ready })
   head_sound =
-      restood_sound hand v g stood h loose (g ∷ v.ready) v.sleeping refl (h.marks g) call
+      restood_sound hand v g stood h loose (g ∷ v.ready) v.sleeping refl (h.marks g) (λ n. omega arith) call
       (λ x differs none. omega (arith, none)) (omega (arith, one_self g, loose.apart), λ some. tt) (λ x differs none. omega arith)
       (omega (arith, loose.awake), λ some. absurd (omega (arith, some, loose.awake)))
 
   back_sound : Sound hand (record v { fibers = slice_set v.fibers g stood; ready = v.ready ++ g ∷ [] })
   back_sound =
       let all : (x : ℕ) → times x (v.ready ++ g ∷ []) ≡ times x v.ready + (one x g + 0) = λ x. times_append x v.ready (g ∷ []) in
-      restood_sound hand v g stood h loose (v.ready ++ g ∷ []) v.sleeping refl (h.marks g) call
+      restood_sound hand v g stood h loose (v.ready ++ g ∷ []) v.sleeping refl (h.marks g) (λ n. omega arith) call
       (λ x differs none. omega (arith, none, all x)) (omega (arith, one_self g, loose.apart, all g), λ some. tt) (λ x differs none. omega arith)
       (omega (arith, loose.awake), λ some. absurd (omega (arith, some, loose.awake)))
 
 -- from the hand
-pub head : (next : Next) (g : ℕ) (hand : List ℕ) (v : View) → ClosesNext (length v.switches) next
+pub head : (next : Next) (g : ℕ) (hand : List ℕ) (v : View) → ClosesNext (length v.switches) (length v.groups) next
     → Leads (g ∷ hand) v hand (record v { fibers = slice_set v.fibers g (record (fiber_at v.fibers g) { standing = Ready next }); ready = g ∷ v.ready })
 head next g hand v call h =
     let free = let_go g hand v h in
@@ -259,9 +286,10 @@ head next g hand v call h =
       waits = restood_waits hand v g _ free.0 free.1 (λ who is. ready_isnt _ _ free.2 is);
       finished = (λ n it. it);
       made = omega arith;
+      gathers = omega arith;
     }
 
-pub back : (next : Next) (g : ℕ) (hand : List ℕ) (v : View) → ClosesNext (length v.switches) next
+pub back : (next : Next) (g : ℕ) (hand : List ℕ) (v : View) → ClosesNext (length v.switches) (length v.groups) next
     → Leads (g ∷ hand) v hand (record v { fibers = slice_set v.fibers g (record (fiber_at v.fibers g) { standing = Ready next }); ready = v.ready ++ g ∷ [] })
 back next g hand v call h =
     let free = let_go g hand v h in
@@ -270,14 +298,15 @@ back next g hand v call h =
       waits = restood_waits hand v g _ free.0 free.1 (λ who is. ready_isnt _ _ free.2 is);
       finished = (λ n it. it);
       made = omega arith;
+      gathers = omega arith;
     }
 
 -- whoever was parked, but not for the clock, is woken; a wait for an object is ended by what comes from outside alone
-pub wakes_sound : (next : Next) (g : ℕ) (hand : List ℕ) (v : View) (wait : Wait) → standing_at v g ≡ Parked wait → (wait ≡ Asleep → ⊥) → ClosesNext (length v.switches) next → Sound hand v
+pub wakes_sound : (next : Next) (g : ℕ) (hand : List ℕ) (v : View) (wait : Wait) → standing_at v g ≡ Parked wait → (wait ≡ Asleep → ⊥) → ClosesNext (length v.switches) (length v.groups) next → Sound hand v
     → Sound hand (record v { fibers = slice_set v.fibers g (record (fiber_at v.fibers g) { standing = Ready next }); ready = v.ready ++ g ∷ [] })
 wakes_sound next g hand v wait is awake call h = back_sound next g hand v h (parked_loose hand v g wait is awake h) call
 
-pub wakes : (next : Next) (g : ℕ) (hand : List ℕ) (v : View) (wait : Wait) → standing_at v g ≡ Parked wait → (wait ≡ Asleep → ⊥) → ((who : Waiter) → wait ≡ OnObject who → ⊥) → ClosesNext (length v.switches) next
+pub wakes : (next : Next) (g : ℕ) (hand : List ℕ) (v : View) (wait : Wait) → standing_at v g ≡ Parked wait → (wait ≡ Asleep → ⊥) → ((who : Waiter) → wait ≡ OnObject who → ⊥) → ClosesNext (length v.switches) (length v.groups) next
     → Leads hand v hand (record v { fibers = slice_set v.fibers g (record (fiber_at v.fibers g) { standing = Ready next }); ready = v.ready ++ g ∷ [] })
 wakes next g hand v wait is awake isnt call h =
     record {
@@ -285,6 +314,7 @@ wakes next g hand v wait is awake isnt call h =
       waits = restood_waits hand v g _ h (parked_loose hand v g wait is awake h) (λ who other. isnt who (ap wait_in (sym is ∙ other)));
       finished = (λ n it. it);
       made = omega arith;
+      gathers = omega arith;
     }
 
 -- ## Timers
@@ -313,7 +343,7 @@ none_removed g (timer ∷ others) = by (timer.fiber == g) refl (none_removed g o
         apart (Other differs none) = omega (arith, none, rest)
 
 -- a fiber that sleeps is woken, and has no timer then
-rouses_sound : (next : Next) (g : ℕ) (hand : List ℕ) (v : View) → standing_at v g ≡ Parked Asleep → times g (sleepers v.sleeping) ≡ 0 → ClosesNext (length v.switches) next
+rouses_sound : (next : Next) (g : ℕ) (hand : List ℕ) (v : View) → standing_at v g ≡ Parked Asleep → times g (sleepers v.sleeping) ≡ 0 → ClosesNext (length v.switches) (length v.groups) next
     → Leads hand v hand (record v { fibers = slice_set v.fibers g (record (fiber_at v.fibers g) { standing = Ready next }); ready = v.ready ++ g ∷ [] })
 rouses_sound next g hand v is awake call h =
     let loose : Loose hand v g = record { lives = over_is _ _ is; apart = apart_by (times g hand + times g v.ready) refl; awake = awake } in
@@ -322,6 +352,7 @@ rouses_sound next g hand v is awake call h =
       waits = restood_waits hand v g _ h loose (λ who other. not_both (ap wait_in (sym is ∙ other)));
       finished = (λ n it. it);
       made = omega arith;
+      gathers = omega arith;
     }
   where
     apart_by : (n : ℕ) → times g hand + times g v.ready ≡ n → n ≡ 0
@@ -331,7 +362,7 @@ rouses_sound next g hand v is awake call h =
     not_both : {who : Waiter} → Asleep ≡ OnObject who → ⊥
     not_both e = cc
 
-pub rouses : (next : Next) (g : ℕ) (hand : List ℕ) (v : View) → standing_at v g ≡ Parked Asleep → ClosesNext (length v.switches) next
+pub rouses : (next : Next) (g : ℕ) (hand : List ℕ) (v : View) → standing_at v g ≡ Parked Asleep → ClosesNext (length v.switches) (length v.groups) next
     → Leads hand v hand (record v { fibers = slice_set v.fibers g (record (fiber_at v.fibers g) { standing = Ready next }); ready = v.ready ++ g ∷ []; sleeping = filter (λ timer. not (timer.fiber == g)) v.sleeping })
 rouses next g hand v is call h =
     let left : List Timer = filter (λ timer. not (timer.fiber == g)) v.sleeping in
@@ -344,7 +375,7 @@ pub record AreDue (fibers : List ℕ) (v : View) : Type 0 where
   pub awake : (x : ℕ) → 0 < times x fibers → times x (sleepers v.sleeping) ≡ 0
 
 -- the first of them is woken
-pub due_woken : (next : Next) (g : ℕ) (others hand : List ℕ) (v : View) → AreDue (g ∷ others) v → ClosesNext (length v.switches) next
+pub due_woken : (next : Next) (g : ℕ) (others hand : List ℕ) (v : View) → AreDue (g ∷ others) v → ClosesNext (length v.switches) (length v.groups) next
     → Sound hand v
     → let w : View = record v { fibers = slice_set v.fibers g (record (fiber_at v.fibers g) { standing = Ready next }); ready = v.ready ++ g ∷ [] } in Goes v hand w × AreDue others w
 due_woken next g others hand v due call h =
@@ -397,18 +428,19 @@ due_leads due hand v h = (
 
 -- ## Out of the ready list
 
-pub parks : (wait : Wait) (g : ℕ) (hand : List ℕ) (v : View) → (wait ≡ Asleep → ⊥) → ClosesWait (length v.switches) wait
+pub parks : (wait : Wait) (g : ℕ) (hand : List ℕ) (v : View) → (wait ≡ Asleep → ⊥) → ClosesWait (length v.switches) (length v.groups) wait
     → Leads (g ∷ hand) v hand (record v { fibers = slice_set v.fibers g (record (fiber_at v.fibers g) { standing = Parked wait }) })
 parks wait g hand v awake call h =
     let free = let_go g hand v h in
     let loose : Loose hand v g = free.1 in
     record {
-      sound = restood_sound hand v g (restood (fiber_at v.fibers g) (Parked wait)) free.0 loose v.ready v.sleeping refl (h.marks g) call
+      sound = restood_sound hand v g (restood (fiber_at v.fibers g) (Parked wait)) free.0 loose v.ready v.sleeping refl (h.marks g) (λ n. omega arith) call
           (λ x differs none. refl) (omega (arith, loose.apart), λ some. absurd (omega (arith, some, loose.apart))) (λ x differs none. omega arith)
           (omega (arith, loose.awake), λ some. absurd (omega (arith, some, loose.awake)));
       waits = restood_waits hand v g _ free.0 loose (λ who is. ready_isnt _ _ free.2 is);
       finished = (λ n it. it);
       made = omega arith;
+      gathers = omega arith;
     }
 
 times_put : (x : ℕ) (timer : Timer) (others : List Timer) → times x (sleepers (timers.put_in timer others)) ≡ one x timer.fiber + times x (sleepers others)
@@ -428,26 +460,41 @@ sleeps timer hand v h =
     let loose : Loose hand v g = free.1 in
     let all : (x : ℕ) → times x (sleepers (timers.put_in timer v.sleeping)) ≡ one x g + times x (sleepers v.sleeping) = λ x. times_put x timer v.sleeping in
     record {
-      sound = restood_sound hand v g (restood (fiber_at v.fibers g) (Parked Asleep)) free.0 loose v.ready (timers.put_in timer v.sleeping) refl (h.marks g) tt
+      sound = restood_sound hand v g (restood (fiber_at v.fibers g) (Parked Asleep)) free.0 loose v.ready (timers.put_in timer v.sleeping) refl (h.marks g) (λ n. omega arith) tt
           (λ x differs none. refl) (omega (arith, loose.apart), λ some. absurd (omega (arith, some, loose.apart))) (λ x differs none. omega (arith, all x, none))
           (omega (arith, all g, one_self g, loose.awake), λ some. refl);
       waits = restood_waits hand v g _ free.0 loose (λ who is. ready_isnt _ _ free.2 is);
       finished = (λ n it. it);
       made = omega arith;
+      gathers = omega arith;
     }
 
+-- what an end owes to a group is counted later
 pub ends : (result : Outcome) (g : ℕ) (hand : List ℕ) (v : View)
-    → Leads (g ∷ hand) v hand (record v { fibers = slice_set v.fibers g (record (fiber_at v.fibers g) { work = []; variables = []; standing = Ended result }) })
+    → Leads (g ∷ hand) v hand (record v { fibers = slice_set v.fibers g (record (fiber_at v.fibers g) { work = []; variables = []; standing = Ended result }); debts = owed_by (fiber_at v.fibers g).role v.debts })
 ends result g hand v h =
     let free = let_go g hand v h in
     let loose : Loose hand v g = free.1 in
+    let f : Fiber = record (fiber_at v.fibers g) { work = []; variables = []; standing = Ended result } in
+    let sound = restood_sound hand v g f free.0 loose v.ready v.sleeping refl tt (λ n. omega arith) tt
+    (λ x differs none. refl) (omega (arith, loose.apart), λ some. absurd (omega (arith, some, loose.apart))) (λ x differs none. omega arith)
+    (omega (arith, loose.awake), λ some. absurd (omega (arith, some, loose.awake))) in
     record {
-      sound = restood_sound hand v g (record (fiber_at v.fibers g) { work = []; variables = []; standing = Ended result }) free.0 loose v.ready v.sleeping refl tt tt
-          (λ x differs none. refl) (omega (arith, loose.apart), λ some. absurd (omega (arith, some, loose.apart))) (λ x differs none. omega arith)
-          (omega (arith, loose.awake), λ some. absurd (omega (arith, some, loose.awake)));
+      sound = record {
+        once = sound.once;
+        ready = sound.ready;
+        slept = sound.slept;
+        asleep = sound.asleep;
+        attached = sound.attached;
+        emptied = sound.emptied;
+        marks = sound.marks;
+        calls = sound.calls;
+        gathered = ended_gathered v.fibers v.groups v.debts g f (λ n. refl) (λ n. lived n (fiber_at v.fibers g) loose.lives) refl h.gathered;
+      };
       waits = restood_waits hand v g _ free.0 loose (λ who is. ready_isnt _ _ free.2 is);
       finished = (λ n it. it);
       made = omega arith;
+      gathers = omega arith;
     }
 
 -- it has ended then
@@ -460,9 +507,11 @@ ends_over result g hand v h =
 
 -- ## Fibers in another place of their work
 
-pub places : (f : Fiber) (g : ℕ) (hand : List ℕ) (v : View) → f.role ≡ (fiber_at v.fibers g).role → f.standing ≡ standing_at v g → Closes (length v.switches) f.work
-    → Leads hand v hand (record v { fibers = slice_set v.fibers g f })
-places f g hand v role standing work h = record {
+-- a mark of a group that is gone from its work may be a debt
+pub places : (f : Fiber) (g : ℕ) (hand : List ℕ) (v : View) (debts : List ℕ) → f.role ≡ (fiber_at v.fibers g).role → f.standing ≡ standing_at v g → Closes (length v.switches) f.work
+    → ((n : ℕ) → joining n f.work + times n debts ≤ joining n (fiber_at v.fibers g).work + times n v.debts)
+    → Leads hand v hand (record v { fibers = slice_set v.fibers g f; debts = debts })
+places f g hand v debts role standing work joins h = record {
   sound = record {
     once = h.once;
     ready = (λ x some. set_keeps (λ (k : Fiber). IsReady k.standing) never_made v.fibers g x f (λ old. subst IsReady (sym standing) old) (h.ready x some));
@@ -471,11 +520,13 @@ places f g hand v role standing work h = record {
     attached = (λ n x daemon is lives. h.attached n x daemon (sym (role_kept x) ∙ is) (ap is_over (sym (standing_kept x)) ∙ lives));
     emptied = h.emptied;
     marks = (λ x. set_keeps (λ (k : Fiber). Closes (length v.switches) k.work) never_made v.fibers g x f (λ old. work) (h.marks x));
-    calls = (λ x. set_keeps (λ (k : Fiber). ClosesStanding (length v.switches) k.standing) never_made v.fibers g x f (λ old. subst (ClosesStanding (length v.switches)) (sym standing) old) (h.calls x));
+    calls = (λ x. set_keeps (λ (k : Fiber). ClosesStanding (length v.switches) (length v.groups) k.standing) never_made v.fibers g x f (λ old. subst (ClosesStanding (length v.switches) (length v.groups)) (sym standing) old) (h.calls x));
+    gathered = set_gathered v.fibers v.groups v.debts debts g f (λ n. omega (arith, live_same n f (fiber_at v.fibers g) role standing)) joins h.gathered;
   };
   waits = (λ x who is. set_keeps (λ (k : Fiber). k.standing ≡ Parked (OnObject who)) never_made v.fibers g x f (λ old. standing ∙ old) is);
   finished = (λ n it. it);
   made = omega arith;
+  gathers = omega arith;
 }
   where
     role_kept : (x : ℕ) → (fiber_at (slice_set v.fibers g f) x).role ≡ (fiber_at v.fibers x).role
@@ -486,16 +537,17 @@ places f g hand v role standing work h = record {
 
 -- ## New fibers
 
-pub makes : (f : Fiber) (hand next : List ℕ) (v : View) (switches : List Switch)
+pub makes : (f : Fiber) (hand next : List ℕ) (v : View) (switches : List Switch) (debts : List ℕ)
     → ((x : ℕ) → times x next ≡ one x (length v.fibers) + times x hand)
-    → IsReady f.standing → Closes (length v.switches) f.work → ClosesStanding (length v.switches) f.standing
+    → IsReady f.standing → Closes (length v.switches) f.work → ClosesStanding (length v.switches) (length v.groups) f.standing
     → length switches ≡ length v.switches
     → ((n : ℕ) → IsEmptied (switch_at v.switches n) → IsEmptied (switch_at switches n))
     → ((n : ℕ) → (switch_at v.switches n).finished ≡ true → (switch_at switches n).finished ≡ true)
     → ((n x : ℕ) (daemon : Bool) → 0 < times x (attached_to daemon (switch_at v.switches n)) → 0 < times x (attached_to daemon (switch_at switches n)))
     → ((n : ℕ) (daemon : Bool) → f.role ≡ OfSwitch n daemon → 0 < times (length v.fibers) (attached_to daemon (switch_at switches n)))
-    → Leads hand v next (record v { fibers = v.fibers ++ f ∷ []; switches = switches })
-makes f hand next v switches all ready work standing size emptied finished attached new h = record {
+    → Credited f v.fibers v.groups v.debts debts
+    → Leads hand v next (record v { fibers = v.fibers ++ f ∷ []; switches = switches; debts = debts })
+makes f hand next v switches debts all ready work standing size emptied finished attached new credited h = record {
   sound = record {
     once = (λ x. once_by x (compared x (length v.fibers)));
     ready = (λ x some. ready_by x some (added_at never_made v.fibers x f));
@@ -504,13 +556,20 @@ makes f hand next v switches all ready work standing size emptied finished attac
     attached = (λ n x daemon. attached_by n x daemon (added_at never_made v.fibers x f));
     emptied = (λ n. emptied n (h.emptied n));
     marks = (λ x. subst (λ (bound : ℕ). Closes bound (fiber_at (v.fibers ++ f ∷ []) x).work) (sym size) (marks_by x (added_at never_made v.fibers x f)));
-    calls = (λ x. subst (λ (bound : ℕ). ClosesStanding bound (fiber_at (v.fibers ++ f ∷ []) x).standing) (sym size) (calls_by x (added_at never_made v.fibers x f)));
+    calls = (λ x. subst (λ (bound : ℕ). ClosesStanding bound (length v.groups) (fiber_at (v.fibers ++ f ∷ []) x).standing) (sym size) (calls_by x (added_at never_made v.fibers x f)));
+    gathered = made_gathered f v.fibers v.groups v.debts debts credited h.gathered;
   };
   waits = (λ x who is. waits_by x who is (added_at never_made v.fibers x f));
-  finished = (λ n it. record { opened = omega (arith, it.opened, size); finished = finished n it.finished });
+  finished = over_by;
   made = omega (arith, size);
+  gathers = omega arith;
 }
   where
+    over_by : (n : Scope) → IsOver v.switches v.groups n → IsOver switches v.groups n
+    over_by (OnSwitch n) it = record { opened = omega (arith, it.opened, size); finished = finished n it.finished }
+    over_by (OnGroup n) it = it
+    over_by (IsOpened n) it = omega (arith, it, size)
+
     -- nobody has its number yet
     nowhere : (x k : ℕ) → x ≡ length v.fibers → times x hand + times x v.ready ≡ k → k ≡ 0
     nowhere x zero same is = refl
@@ -545,9 +604,9 @@ makes f hand next v switches all ready work standing size emptied finished attac
     marks_by x (Last same is) = subst (λ (k : Fiber). Closes (length v.switches) k.work) (sym is) work
     marks_by x (Before is) = subst (λ (k : Fiber). Closes (length v.switches) k.work) (sym is) (h.marks x)
 
-    calls_by : (x : ℕ) → AddedAt never_made v.fibers x f → ClosesStanding (length v.switches) (fiber_at (v.fibers ++ f ∷ []) x).standing
-    calls_by x (Last same is) = subst (λ (k : Fiber). ClosesStanding (length v.switches) k.standing) (sym is) standing
-    calls_by x (Before is) = subst (λ (k : Fiber). ClosesStanding (length v.switches) k.standing) (sym is) (h.calls x)
+    calls_by : (x : ℕ) → AddedAt never_made v.fibers x f → ClosesStanding (length v.switches) (length v.groups) (fiber_at (v.fibers ++ f ∷ []) x).standing
+    calls_by x (Last same is) = subst (λ (k : Fiber). ClosesStanding (length v.switches) (length v.groups) k.standing) (sym is) standing
+    calls_by x (Before is) = subst (λ (k : Fiber). ClosesStanding (length v.switches) (length v.groups) k.standing) (sym is) (h.calls x)
 
     waits_by : (x : ℕ) (who : Waiter) → standing_at v x ≡ Parked (OnObject who) → AddedAt never_made v.fibers x f → (fiber_at (v.fibers ++ f ∷ []) x).standing ≡ Parked (OnObject who)
     waits_by x who old (Before is) = ap (λ (k : Fiber). k.standing) is ∙ old
@@ -557,11 +616,12 @@ makes f hand next v switches all ready work standing size emptied finished attac
         no_wait e = cc
 
 -- a new fiber of no switch
-pub makes_other : (f : Fiber) (hand : List ℕ) (v : View) → IsReady f.standing → Closes (length v.switches) f.work → ClosesStanding (length v.switches) f.standing
+pub makes_other : (f : Fiber) (hand : List ℕ) (v : View) (debts : List ℕ) → IsReady f.standing → Closes (length v.switches) f.work → ClosesStanding (length v.switches) (length v.groups) f.standing
     → ((n : ℕ) (daemon : Bool) → f.role ≡ OfSwitch n daemon → ⊥)
-    → Leads hand v (length v.fibers ∷ hand) (record v { fibers = v.fibers ++ f ∷ [] })
-makes_other f hand v ready work standing isnt =
-    makes f hand (length v.fibers ∷ hand) v v.switches (λ x. refl) ready work standing refl (λ n it. it) (λ n it. it) (λ n x daemon it. it) (λ n daemon role. absurd (isnt n daemon role))
+    → Credited f v.fibers v.groups v.debts debts
+    → Leads hand v (length v.fibers ∷ hand) (record v { fibers = v.fibers ++ f ∷ []; debts = debts })
+makes_other f hand v debts ready work standing isnt credited =
+    makes f hand (length v.fibers ∷ hand) v v.switches debts (λ x. refl) ready work standing refl (λ n it. it) (λ n it. it) (λ n x daemon it. it) (λ n daemon role. absurd (isnt n daemon role)) credited
 
 -- ## Switches
 
@@ -581,12 +641,19 @@ reswitched switches hand v size emptied finished attached h = record {
     attached = (λ n x daemon is lives. attached n x daemon lives (h.attached n x daemon is lives));
     emptied = (λ n. emptied n (h.emptied n));
     marks = (λ x. closes_more (length v.switches) (length switches) size (fiber_at v.fibers x).work (h.marks x));
-    calls = (λ x. standing_more (length v.switches) (length switches) size (fiber_at v.fibers x).standing (h.calls x));
+    calls = (λ x. standing_more (length v.switches) (length v.groups) (length switches) (length v.groups) size (omega arith) (fiber_at v.fibers x).standing (h.calls x));
+    gathered = h.gathered;
   };
   waits = (λ x who is. is);
-  finished = (λ n it. record { opened = omega (arith, it.opened, size); finished = finished n it.opened it.finished });
+  finished = over_by;
   made = size;
+  gathers = omega arith;
 }
+  where
+    over_by : (n : Scope) → IsOver v.switches v.groups n → IsOver switches v.groups n
+    over_by (OnSwitch n) it = record { opened = omega (arith, it.opened, size); finished = finished n it.opened it.finished }
+    over_by (OnGroup n) it = it
+    over_by (IsOpened n) it = omega (arith, it, size)
 
 -- what one change of a switch keeps
 pub record Alike (gone : ℕ → Type 0) (s t : Switch) : Type 0 where
@@ -640,3 +707,120 @@ opens context hand v =
     attached_by k x daemon (Before is) old = subst (λ (t : Switch). 0 < times x (attached_to daemon t)) (sym is) old
     attached_by k x daemon (Last same is) old =
         absurd (omega (arith, none x daemon, subst (λ (t : Switch). 0 < times x (attached_to daemon t)) (subst (λ (m : ℕ). switch_at v.switches m ≡ never_opened) (sym same) (past never_opened v.switches)) old))
+
+-- ## Groups
+
+pub group_length : (groups : List Group) (n : ℕ) (group : Group) → length (slice_set groups n group) ≡ length groups
+group_length groups n group = set_length groups n group
+
+-- one group changes; as many of its debts are paid as branches are counted
+pub regroups : (n : ℕ) (group : Group) (hand : List ℕ) (v : View) (debts : List ℕ) → ((m : ℕ) → times m debts ≤ times m v.debts)
+    → (group_at v.groups n).left + times n debts ≤ group.left + times n v.debts → group.left ≤ (group_at v.groups n).left
+    → Leads hand v hand (record v { groups = slice_set v.groups n group; debts = debts })
+regroups n group hand v debts fewer paid less h = record {
+  sound = record {
+    once = h.once;
+    ready = h.ready;
+    slept = h.slept;
+    asleep = h.asleep;
+    attached = h.attached;
+    emptied = h.emptied;
+    marks = h.marks;
+    calls = (λ x. standing_more (length v.switches) (length v.groups) (length v.switches) (length (slice_set v.groups n group)) (omega arith) (omega (arith, size)) (fiber_at v.fibers x).standing (h.calls x));
+    gathered = record {
+      counted = (λ m some. counted_by m some (set_at never_gathered v.groups n m group));
+      fresh = (λ m past. omega (arith, fewer m, h.gathered.fresh m (omega (arith, past, size))));
+    };
+  };
+  waits = (λ x who is. is);
+  finished = over_by;
+  made = omega arith;
+  gathers = omega (arith, size);
+}
+  where
+    size : length (slice_set v.groups n group) ≡ length v.groups
+    size = set_length v.groups n group
+
+    counted_by : (m : ℕ) → 0 < lives m v.fibers → SetAt never_gathered v.groups n m group → lives m v.fibers + owns m v.fibers + times m debts ≤ (group_at (slice_set v.groups n group) m).left
+    counted_by m some (There is) = let same : (group_at (slice_set v.groups n group) m).left ≡ (group_at v.groups m).left = ap (λ (it : Group). it.left) is in omega (arith, same, fewer m, h.gathered.counted m some)
+    counted_by m some (Here at is) =
+        let same : (group_at (slice_set v.groups n group) m).left ≡ group.left = ap (λ (it : Group). it.left) is in
+        let here : (group_at v.groups m).left + times m debts ≤ group.left + times m v.debts = subst (λ (k : ℕ). (group_at v.groups k).left + times k debts ≤ group.left + times k v.debts) (sym at) paid in
+        omega (arith, same, here, h.gathered.counted m some)
+
+    left_by : (m : ℕ) → (group_at v.groups m).left ≡ 0 → SetAt never_gathered v.groups n m group → (group_at (slice_set v.groups n group) m).left ≡ 0
+    left_by m over (There is) = ap (λ (it : Group). it.left) is ∙ over
+    left_by m over (Here at is) =
+        let same : (group_at (slice_set v.groups n group) m).left ≡ group.left = ap (λ (it : Group). it.left) is in
+        let here : (group_at v.groups n).left ≡ 0 = subst (λ (k : ℕ). (group_at v.groups k).left ≡ 0) at over in
+        omega (arith, same, here, less)
+
+    over_by : (m : Scope) → IsOver v.switches v.groups m → IsOver v.switches (slice_set v.groups n group) m
+    over_by (OnSwitch m) it = it
+    over_by (IsOpened m) it = it
+    over_by (OnGroup m) it = record { gathered = omega (arith, it.gathered, size); over = left_by m it.over (set_at never_gathered v.groups n m group) }
+
+-- a group is made, and so many of its ends will come
+pub gathers : (group : Group) (hand : List ℕ) (v : View) (debts : List ℕ) → ((m : ℕ) → (m ≡ length v.groups → ⊥) → times m debts ≤ times m v.debts)
+    → Leads hand v hand (record v { groups = v.groups ++ group ∷ []; debts = debts })
+gathers group hand v debts fewer h = record {
+  sound = record {
+    once = h.once;
+    ready = h.ready;
+    slept = h.slept;
+    asleep = h.asleep;
+    attached = h.attached;
+    emptied = h.emptied;
+    marks = h.marks;
+    calls = (λ x. standing_more (length v.switches) (length v.groups) (length v.switches) (length (v.groups ++ group ∷ [])) (omega arith) (omega (arith, size)) (fiber_at v.fibers x).standing (h.calls x));
+    gathered = record {
+      counted = (λ m some. counted_by m some (compared m (length v.groups)));
+      fresh = (λ m past. omega (arith, fewer m (λ same. omega (arith, past, size, same)), h.gathered.fresh m (omega (arith, past, size))));
+    };
+  };
+  waits = (λ x who is. is);
+  finished = over_by;
+  made = omega arith;
+  gathers = omega (arith, size);
+}
+  where
+    size : length (v.groups ++ group ∷ []) ≡ length v.groups + 1
+    size = length-append v.groups (group ∷ [])
+
+    counted_by : (m : ℕ) → 0 < lives m v.fibers → Compared m (length v.groups) → lives m v.fibers + owns m v.fibers + times m debts ≤ (group_at (v.groups ++ group ∷ []) m).left
+    counted_by m some (Same same is_one) = absurd (omega (arith, some, h.gathered.fresh m (omega (arith, same))))
+    counted_by m some (Other differs none) = by (added_at never_gathered v.groups m group)
+      where
+        by : AddedAt never_gathered v.groups m group → lives m v.fibers + owns m v.fibers + times m debts ≤ (group_at (v.groups ++ group ∷ []) m).left
+        by (Last same is) = absurd (differs same)
+        by (Before is) =
+            let same : (group_at (v.groups ++ group ∷ []) m).left ≡ (group_at v.groups m).left = ap (λ (it : Group). it.left) is in omega (arith, same, fewer m differs, h.gathered.counted m some)
+
+    left_by : (m : ℕ) → IsJoined v.groups m → AddedAt never_gathered v.groups m group → (group_at (v.groups ++ group ∷ []) m).left ≡ 0
+    left_by m it (Last same is) = absurd (omega (arith, same, it.gathered))
+    left_by m it (Before is) = ap (λ (it : Group). it.left) is ∙ it.over
+
+    over_by : (m : Scope) → IsOver v.switches v.groups m → IsOver v.switches (v.groups ++ group ∷ []) m
+    over_by (OnSwitch m) it = it
+    over_by (IsOpened m) it = it
+    over_by (OnGroup m) it = record { gathered = omega (arith, it.gathered, size); over = left_by m it (added_at never_gathered v.groups m group) }
+
+-- some debts are dropped
+pub forgives : (debts hand : List ℕ) (v : View) → ((m : ℕ) → times m debts ≤ times m v.debts) → Leads hand v hand (record v { debts = debts })
+forgives debts hand v fewer h = record {
+  sound = record {
+    once = h.once;
+    ready = h.ready;
+    slept = h.slept;
+    asleep = h.asleep;
+    attached = h.attached;
+    emptied = h.emptied;
+    marks = h.marks;
+    calls = h.calls;
+    gathered = shifted v.fibers v.fibers v.groups v.debts debts (λ n. omega arith) (λ n. omega (arith, fewer n)) h.gathered;
+  };
+  waits = (λ x who is. is);
+  finished = (λ n it. it);
+  made = omega arith;
+  gathers = omega arith;
+}

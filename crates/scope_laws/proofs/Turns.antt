@@ -518,13 +518,13 @@ module _ (n : ℕ) where
   fails_with_calls maker m None l = no_calls n l.switches
   fails_with_calls maker m (Some what) l = fails_calls maker m what l
 
-  fails_with_fibers : (maker m : ℕ) (came : Option Raised) (l : DomainState) → (on_switches.fails_with maker m came l).fibers ≡ l.fibers
+  pub fails_with_fibers : (maker m : ℕ) (came : Option Raised) (l : DomainState) → (on_switches.fails_with maker m came l).fibers ≡ l.fibers
   fails_with_fibers maker m None l = refl
   fails_with_fibers maker m (Some what) l = fails_fibers maker m what l
 
   -- where a fiber stands once it has gone into a block
   entered_work : (it : Did) (reply : Said2) (c : ℕ) (position : Position) (g : ℕ) (l : DomainState) → g < length l.fibers
-      → let after : Fiber = fiber_at (steps.enters it reply position g (moved_to c g l)).state.fibers g in (after.work ≡ position.work) × (after.variables ≡ position.variables)
+      → let after : Fiber = fiber_at (steps.enters it reply position g (moved_to c g l)).state.fibers g in (after.work ≡ position.work) × (after.variables ≡ position.variables) × (after.context ≡ c) × (after.standing ≡ Ready (GoesOn (outcome.Ok value.Unit)))
   entered_work it reply c position g l inside =
       let m : DomainState = moved_to c g l in
       let first : g < length m.fibers = omega (arith, inside, set_length l.fibers g (record (fiber_at l.fibers g) { context = c })) in
@@ -532,7 +532,12 @@ module _ (n : ℕ) where
       let second : g < length u.fibers = omega (arith, first, set_length m.fibers g (record (fiber_at m.fibers g) { work = position.work; variables = position.variables })) in
       let stood : fiber_at (to_head (GoesOn (outcome.Ok value.Unit)) g u).fibers g ≡ record (fiber_at u.fibers g) { standing = Ready (GoesOn (outcome.Ok value.Unit)) } = set_same never_made u.fibers g _ second in
       let put : fiber_at u.fibers g ≡ record (fiber_at m.fibers g) { work = position.work; variables = position.variables } = set_same never_made m.fibers g _ first in
-      (ap (λ (f : Fiber). f.work) stood ∙ ap (λ (f : Fiber). f.work) put, ap (λ (f : Fiber). f.variables) stood ∙ ap (λ (f : Fiber). f.variables) put)
+      let moved : fiber_at m.fibers g ≡ record (fiber_at l.fibers g) { context = c } = set_same never_made l.fibers g _ inside in (
+        ap (λ (f : Fiber). f.work) stood ∙ ap (λ (f : Fiber). f.work) put,
+        ap (λ (f : Fiber). f.variables) stood ∙ ap (λ (f : Fiber). f.variables) put,
+        ap (λ (f : Fiber). f.context) stood ∙ (ap (λ (f : Fiber). f.context) put ∙ ap (λ (f : Fiber). f.context) moved),
+        ap (λ (f : Fiber). f.standing) stood,
+      )
 
   close_turns : (script : Script) (asked : List Handler) (m : ℕ) (came : Option Raised) (kept : Value) (g : ℕ) (l : DomainState) → g < length l.fibers → Turns script asked l.switches (on_switches.close script (ask.Close m came kept) m came kept g l)
   close_turns script asked m came kept g l inside =
@@ -572,7 +577,7 @@ module _ (n : ℕ) where
           hands_n
           (subst (λ (j : ℕ). slice_set t.switches m closed.switch ≡ slice_set t.switches j (switches.close_step g (switch_at t.switches j)).switch) same refl)
           (subst (λ (j : ℕ). StandsBefore script j g handler (on_contexts.enters_context (did.Close m) said.Handler number (handled call number (block_numbered script handler.block) handler.values fiber.work fiber.variables) g k).state) same
-          (record { context = number; own = fiber.variables; kept = kept; others = fiber.work; work = there.0; variables = there.1 }))
+          (record { context = number; own = fiber.variables; kept = kept; others = fiber.work; work = there.0; variables = there.1; inside = there.2; ready = there.3 }))
 
       new_by : (number : Option ℕ) → (handler : Handler) → closed.step ≡ switches.RunHandler handler → Turns script asked l.switches (elim number as (λ _. Step) [
         | None ↦ steps.halts g u

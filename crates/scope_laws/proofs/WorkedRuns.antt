@@ -1,4 +1,4 @@
--- A worked run, so that the premises of the laws can be met: a switch with a fiber, a daemon and three handlers, of which one registers the last.
+-- Worked runs, so that the premises of the laws can be met: a switch with a fiber, a daemon and three handlers, of which one registers the last; and a group of two branches.
 use Rattle.std.proofs.Common.{◌≡◌, ℕ, true, false, List, [], ◌∷◌, Option, Some, None, refl}
 use Rattle.eio_value.specs.declared.message.Message.{Message}
 use Rattle.eio_value.specs.declared.message.Message.TheVariants as message
@@ -7,7 +7,8 @@ use Rattle.eio_value.specs.declared.value.Value.TheVariants as value
 use Rattle.row_model.specs.Contexts.{way_within}
 use Rattle.row_model.specs.Switches.{Handler}
 use Rattle.script_model.specs.Scripts.{Script}
-use Rattle.script_model.specs.Syntax.{Statement, Yield, AwaitCancel, Switch, Fork, Plain, Daemon, OnRelease, Block, Begins, Statements, Done, Then}
+use Rattle.script_model.specs.Syntax.{Statement, Yield, AwaitCancel, Switch, Fork, Plain, Daemon, OnRelease, Branches, Both, NoBlocks, AndBlock, Block, Begins, Statements, Done, Then}
+use Rattle.step_model.specs.Asks as ask
 use Rattle.step_model.specs.Evaluation.{value_of, values_of}
 use Rattle.step_model.specs.Numbered.{block_numbered, blocks_of_statement}
 use Rattle.step_model.specs.Settling.{answered}
@@ -16,10 +17,12 @@ use Rattle.trace_out.specs.declared.line.Did.{Did}
 use Rattle.trace_out.specs.declared.line.Did.TheVariants as did
 use Rattle.trace_out.specs.declared.line.Said2.{Said2}
 use Rattle.trace_out.specs.declared.line.Said2.TheVariants as said
-use Rattle.machine_model.specs.Domain.{DomainState, fiber_at, has_ended}
+use Rattle.machine_model.specs.Domain.{OfGroup, DomainState, fiber_at, has_ended}
+use Rattle.machine_model.specs.GroupMoves.{branched}
 use Rattle.machine_model.specs.Labels.{Took}
 use Rattle.machine_model.specs.Mock.{Moved, opening, move, moves}
 use Rattle.machine_model.specs.Moves.{own_call, after}
+use Rattle.machine_model.specs.Preparing as doing
 use Rattle.machine_model.specs.Preparing.{prepared}
 use Rattle.machine_model.specs.Steps.{waiting_from}
 use Rattle.machine_model.specs.Trace.{run}
@@ -91,3 +94,47 @@ it_had_ended = refl
 it_moves_again : has_ended (fiber_at (after worked at_the_end 21 (Took late)).fibers 1) ≡ false
 unfolding at_the_end after prepared value_of values_of answered statement
 it_moves_again = refl
+
+-- ## Ends of handlers
+
+-- the lines by which the switch is closed, and by which contexts are left
+abbrev told_of_ends : Did → Said2 → List (Did × Said2) → List (Did × Said2)
+told_of_ends (did.Close n) reply others = (did.Close n, reply) ∷ others
+told_of_ends (did.Leave c) reply others = (did.Leave c, reply) ∷ others
+told_of_ends it reply others = others
+
+abbrev ends_told : List Moved → List (Did × Said2)
+ends_told [] = []
+ends_told (moved ∷ others) = told_of_ends moved.line.did moved.line.reply (ends_told others)
+
+each_handler_ends :
+    ends_told (run worked 20).moves
+    ≡ (did.Close 0, said.Waits) ∷ (did.Close 0, said.Waits) ∷ (did.Close 0, said.Handler) ∷ (did.Leave 2, said.Done value.Unit) ∷ (did.Close 0, said.Handler) ∷ (did.Leave 3, said.Done value.Unit)
+    ∷ (did.Close 0, said.Handler) ∷ (did.Leave 4, said.Done value.Unit) ∷ (did.Close 0, said.Done value.Unit) ∷ []
+unfolding run moves move prepared own_call value_of values_of answered statement waiting_from way_within block_numbered blocks_of_statement
+each_handler_ends = refl
+
+-- ## A group
+
+-- the caller comes to the end of its own branch first, waits, and joins the group again once the other branch has ended
+abbrev both_of : Script
+both_of = record {
+  names = [];
+  declarations = [];
+  bodies = block 0 (Branches Both (AndBlock (block 1 (Yield ∷ Yield ∷ [])) (AndBlock (block 2 []) NoBlocks)) ∷ []) ∷ [];
+  texts = [];
+  failures = [];
+  formed = [];
+  first_domain = None;
+}
+
+it_joins :
+    ((prepared (run both_of 5).last.local).doing ≡ doing.Calls 0 (ask.Join 0 None)) × (told (move both_of (run both_of 5).last) ≡ Some (did.Join 1, said.Done value.Unit))
+    × ((fiber_at (run both_of 5).last.local.fibers 1).role ≡ OfGroup 0)
+unfolding run moves move prepared own_call value_of values_of answered statement waiting_from way_within block_numbered blocks_of_statement branched
+it_joins = (refl, refl, refl)
+
+-- the other branch has ended then; a message for it has it move again
+its_branch_moves_again : (has_ended (fiber_at (run both_of 6).last.local.fibers 1) ≡ true) × (has_ended (fiber_at (after both_of (run both_of 6).last.local 7 (Took late)).fibers 1) ≡ false)
+unfolding run moves move prepared own_call value_of values_of answered statement waiting_from way_within block_numbered blocks_of_statement branched after
+its_branch_moves_again = (refl, refl)

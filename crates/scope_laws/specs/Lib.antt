@@ -1,2 +1,4 @@
 pub mod Finished
 pub mod Released
+pub mod Joined
+pub mod Handling

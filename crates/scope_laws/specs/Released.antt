@@ -1,7 +1,9 @@
 -- Release handlers in runs: which of them a switch accepted, and which have run, told by the lines of a run and by the states between them.
 use Rattle.std.specs.Prelude.{◌≡◌, ℕ, ◌==◌, true, false, List, [], ◌∷◌, length, Some}
 use Rattle.std.specs.List.{flat_map}
+use Rattle.eio_value.specs.declared.raised.Outcome.TheVariants as outcome
 use Rattle.eio_value.specs.declared.value.Value.{Value}
+use Rattle.eio_value.specs.declared.value.Value.TheVariants as value
 use Rattle.row_model.specs.Switches.{Handler, Switch, switch_at}
 use Rattle.script_model.specs.Scripts.{Script}
 use Rattle.step_model.specs.Asks as ask
@@ -15,7 +17,7 @@ use Rattle.trace_out.specs.declared.line.Did.TheVariants as did
 use Rattle.trace_out.specs.declared.line.Line.{Line}
 use Rattle.trace_out.specs.declared.line.Said2.{Said2}
 use Rattle.trace_out.specs.declared.line.Said2.TheVariants as said
-use Rattle.machine_model.specs.Domain.{DomainState, fiber_at}
+use Rattle.machine_model.specs.Domain.{GoesOn, Ready, DomainState, fiber_at}
 use Rattle.machine_model.specs.Histories.{domain_at_first, state_at_first, IsLegalHistory}
 use Rattle.machine_model.specs.Mock.{Mock, Moved, opening, move}
 use Rattle.machine_model.specs.Preparing as doing
@@ -105,7 +107,7 @@ batches n run = flat_map (batch_by n) run
 
 -- ## Handlers that have run
 
--- the fiber stands before the handler's block, with the handler's variables. Behind the block it leaves the handler's context, has its own variables back, and closes the switch again
+-- the fiber stands ready before the handler's block, in the handler's context and with the handler's variables. Behind the block it leaves the handler's context, has its own variables back, and closes the switch again
 pub record StandsBefore (script : Script) (switch fiber : ℕ) (handler : Handler) (l : DomainState) : Type 0 where
   pub context : ℕ
   pub own : List Value
@@ -113,6 +115,8 @@ pub record StandsBefore (script : Script) (switch fiber : ℕ) (handler : Handle
   pub others : List Work
   pub work : (fiber_at l.fibers fiber).work ≡ Run (items_of (block_numbered script handler.block)) ∷ Leave context false (length handler.values) ∷ Restore own ∷ Closing switch kept ∷ others
   pub variables : (fiber_at l.fibers fiber).variables ≡ handler.values
+  pub inside : (fiber_at l.fibers fiber).context ≡ context
+  pub ready : (fiber_at l.fibers fiber).standing ≡ Ready (GoesOn (outcome.Ok value.Unit))
 
 -- of these handlers the first runs with this line, if one does, and the others later
 abbrev pub RunsFirst : Telling → (stands : Handler → Type 0) → (later : List Handler → Type 0) → List Handler → Type 0

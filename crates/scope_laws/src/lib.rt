@@ -6,6 +6,8 @@
 #![tactic(auto)]
 
 ghost use Rattle.scope_laws.specs.Finished.{LeavesNothing, LeavesNothingInHistories, LeavesNothingInRuns};
+ghost use Rattle.scope_laws.specs.Handling.{HandlersEnd, HandlersEndInHistories, HandlersEndInRuns};
+ghost use Rattle.scope_laws.specs.Joined.{GroupsLeaveNothing, GroupsLeaveNothingInHistories, GroupsLeaveNothingInRuns};
 ghost use Rattle.scope_laws.specs.Released.{ReleasesOnce, ReleasesOnceInHistories, ReleasesOnceInRuns};
 
 /// Once `close` of a switch has answered a value or an exception, each fiber and each daemon that was forked onto it has
@@ -22,4 +24,20 @@ pub fn releases_once()
     ensures in_domains { ReleasesOnce }
     ensures in_runs { ReleasesOnceInRuns }
     ensures in_histories { ReleasesOnceInHistories }
+{}
+
+/// Once `join` of a group has answered a value or an exception, each fiber that was made for a branch of the group has
+/// ended, in that state and in every later one.
+pub fn groups_leave_nothing()
+    ensures in_domains { GroupsLeaveNothing }
+    ensures in_runs { GroupsLeaveNothingInRuns }
+    ensures in_histories { GroupsLeaveNothingInHistories }
+{}
+
+/// Between a `close` of a switch that goes into a release handler and the next `close` of the switch by the same fiber,
+/// that fiber leaves the context in which the handler runs: the handler's block has come to its end.
+pub fn handlers_end()
+    ensures in_domains { HandlersEnd }
+    ensures in_runs { HandlersEndInRuns }
+    ensures in_histories { HandlersEndInHistories }
 {}
