@@ -5,7 +5,7 @@ use crate::{Job, Message, Outcome, Raised, Value, Waiter};
 /// A call on a shared object.
 ///
 /// The first number is the object's, in order of declaration; of `Submit` it stands in the job.
-#[derive(Clone, Copy, Debug)]
+#[derive(Clone, Copy)]
 pub enum Call {
     /// Adds an item to a stream.
     Add(u32, Value),
@@ -48,7 +48,7 @@ pub enum Call {
 }
 
 /// What a call on a shared object answers.
-#[derive(Clone, Copy, Debug)]
+#[derive(Clone, Copy)]
 pub enum Answer {
     Done(Value),
     /// The fiber waits.
@@ -65,7 +65,7 @@ pub enum Answer {
 }
 
 /// An answer, its place in the order of all calls, and what it sends to the caller's own domain.
-#[derive(Clone, Copy, Debug)]
+#[derive(Clone, Copy)]
 pub struct Answered {
     pub answer: Answer,
     /// Greater than the stamp that the call was given.
@@ -75,7 +75,7 @@ pub struct Answered {
 }
 
 /// Whether this call has woken the fiber that waits, or came too late.
-#[derive(Clone, Copy, Debug)]
+#[derive(Clone, Copy)]
 pub enum Woken {
     /// It has woken the fiber.
     Won,
@@ -84,7 +84,7 @@ pub enum Woken {
 }
 
 /// Whether this strike has cancelled a wait, and its place in the order of all calls.
-#[derive(Clone, Copy, Debug)]
+#[derive(Clone, Copy)]
 pub enum Struck {
     /// The fiber no longer waits, and raises `Cancelled`.
     Won { stamp: u64 },

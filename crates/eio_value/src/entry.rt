@@ -9,7 +9,7 @@ use std::marker::Model;
 
 /// One entry of a directory. Each begins with its name.
 #[cycle(entry)]
-#[derive(Debug, Drop)]
+#[derive(Drop)]
 pub enum Entry {
     /// A file and its content.
     File(Bytes, Bytes),
@@ -21,7 +21,7 @@ pub enum Entry {
 
 /// The entries of a directory, in order.
 #[cycle(entry)]
-#[derive(Debug, Drop)]
+#[derive(Drop)]
 pub struct Entries {
     list: Vec<Entry>,
 }

@@ -3,7 +3,7 @@
 use crate::{Bytes, TextId};
 
 /// One step of a scripted flow, which one read spends.
-#[derive(Debug, Drop)]
+#[derive(Drop)]
 pub enum FlowStep {
     /// The read gives these bytes.
     Data(Bytes),

@@ -33,8 +33,6 @@ mod objects;
 mod operands;
 mod plain;
 mod raised;
-#[cfg(test)]
-mod tests;
 mod texts;
 mod value;
 mod wake;

@@ -16,7 +16,7 @@ const BLANK: Member = Member {
 };
 
 /// Two to eight exceptions with distinct serials, and whether others were left out.
-#[derive(Clone, Copy, Debug)]
+#[derive(Clone, Copy)]
 pub struct Members {
     places: [Member; 8],
     count: usize,

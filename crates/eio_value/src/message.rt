@@ -3,7 +3,7 @@
 use crate::{Outcome, Value};
 
 /// A fiber that waits in a call on a shared object.
-#[derive(Clone, Copy, Debug)]
+#[derive(Clone, Copy)]
 pub struct Waiter {
     /// The domain of the fiber.
     pub domain: u8,
@@ -16,7 +16,7 @@ pub struct Waiter {
 }
 
 /// A block that was submitted to an executor.
-#[derive(Clone, Copy, Debug)]
+#[derive(Clone, Copy)]
 pub struct Job {
     /// The number of the executor, in order of declaration.
     pub executor: u32,
@@ -31,7 +31,7 @@ pub struct Job {
 }
 
 /// What a domain finds in its post.
-#[derive(Clone, Copy, Debug)]
+#[derive(Clone, Copy)]
 pub enum Message {
     /// This fiber goes on, with this outcome of its call.
     Resume {

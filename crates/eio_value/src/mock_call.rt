@@ -6,7 +6,7 @@ use crate::{Raised, TextId, Value};
 ///
 /// A declared flow or directory is named by its number in order of declaration; a reader, a writer or
 /// a directory that was opened is named by the number that its opening answered.
-#[derive(Clone, Copy, Debug)]
+#[derive(Clone, Copy)]
 pub enum MockCall {
     /// The next line of a reader, without its end.
     Line(u32),
@@ -51,7 +51,7 @@ pub enum MockCall {
 }
 
 /// What the trace says of a call on a flow.
-#[derive(Clone, Copy, Debug)]
+#[derive(Clone, Copy)]
 pub enum Said {
     Nothing,
     /// These bytes were read from a flow.
@@ -63,7 +63,7 @@ pub enum Said {
 }
 
 /// What a call on a flow, a reader, a writer or a directory answers.
-#[derive(Clone, Copy, Debug)]
+#[derive(Clone, Copy)]
 pub enum Extra {
     Done(Value, Said),
     /// One read or one write was made, and the call goes on with the fiber's next move.

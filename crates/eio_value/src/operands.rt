@@ -8,7 +8,7 @@ use crate::Value;
 use std::marker::Model;
 
 /// The operands of a call: at most eight values, in order.
-#[derive(Clone, Copy, Debug)]
+#[derive(Clone, Copy)]
 pub struct Operands {
     places: [Value; 8],
     count: usize,

@@ -3,7 +3,7 @@
 use crate::{Member, Members, Value};
 
 /// What a fiber raises.
-#[derive(Clone, Copy, Debug)]
+#[derive(Clone, Copy)]
 pub enum Raised {
     One(Member),
     /// The fiber's context was cancelled, for this reason.
@@ -13,7 +13,7 @@ pub enum Raised {
 }
 
 /// How a block, a fiber or a promise ends.
-#[derive(Clone, Copy, Debug)]
+#[derive(Clone, Copy)]
 pub enum Outcome {
     Ok(Value),
     Err(Raised),

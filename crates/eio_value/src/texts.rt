@@ -12,7 +12,7 @@ use std::alloc::Global;
 use std::marker::Model;
 
 /// A table of texts, in which equal texts have equal numbers.
-#[derive(Debug, Drop)]
+#[derive(Drop)]
 pub struct Texts {
     /// What the table and its texts are allocated by.
     alloc: Global,

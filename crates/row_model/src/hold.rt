@@ -1,7 +1,7 @@
 //! What a mutex is at a time.
 
 /// Whether a mutex is locked, or can never be locked again.
-#[derive(Clone, Copy, Debug)]
+#[derive(Clone, Copy)]
 pub enum Hold {
     Free,
     Held,

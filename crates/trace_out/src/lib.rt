@@ -39,5 +39,3 @@ pub use writing::{WriteAll, write_all};
 #[derive(Clone, Copy, Debug)]
 pub struct Failed;
 
-#[cfg(test)]
-mod tests;

@@ -3,7 +3,7 @@
 use eio_value::{Operands, Outcome, Raised, Said, TextId, Value};
 
 /// One move of a domain.
-#[derive(Clone, Copy, Debug)]
+#[derive(Clone, Copy)]
 pub struct Line {
     /// Its place in the order of all lines; where two lines have one stamp, the lower domain comes first.
     pub stamp: u64,
@@ -18,7 +18,7 @@ pub struct Line {
 /// What a move did: the call of a fiber, an obligation of the domain, or a message that it took.
 ///
 /// Contexts, switches and fibers have their numbers in the domain, objects their numbers in order of declaration.
-#[derive(Clone, Copy, Debug)]
+#[derive(Clone, Copy)]
 pub enum Did {
     /// These values were traced.
     Trace(Operands),
@@ -91,7 +91,7 @@ pub enum Did {
 }
 
 /// What a line's call was answered.
-#[derive(Clone, Copy, Debug)]
+#[derive(Clone, Copy)]
 pub enum Said2 {
     Done(Value),
     Raised(Raised),

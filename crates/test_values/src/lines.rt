@@ -1,0 +1,62 @@
+//! The lines of the trace that moves write, and the numbers of statuses.
+
+use crate::log::{push_asked, push_count, push_heading};
+use eio_value::{NoMemory, Operands, Texts, Value};
+use std::alloc::Global;
+use trace_out::{Did, Line, Said2, Status, render_trace};
+
+/// The line of a move that did this.
+fn line_of(did: Did) -> Line {
+    Line {
+        stamp: 1,
+        domain: 0,
+        fiber: 0,
+        did,
+        reply: Said2::Done(Value::Unit),
+    }
+}
+
+/// What a clock's tick, a yield and a trace of one value write.
+fn answer_moves(texts: &Texts, log: &mut Vec<u8>) -> Result<(), NoMemory> {
+    let one = Operands::none().with(Value::Int(1));
+    let rows = [
+        ("a tick", Did::Tick(5)),
+        ("a yield", Did::Yield),
+        ("a trace", Did::Trace(one)),
+    ];
+    for (asked, did) in rows {
+        push_asked(log, asked)?;
+        render_trace(texts, &[], &line_of(did), log)?;
+        log.push(b'\n')?;
+    }
+    Ok(())
+}
+
+/// The exit status of each ending.
+fn answer_statuses(log: &mut Vec<u8>) -> Result<(), NoMemory> {
+    let rows = [
+        ("ok", Status::Ok),
+        ("raised", Status::Raised),
+        ("refused", Status::Refused),
+        ("deadlock", Status::Deadlock),
+        ("out of steps", Status::OutOfSteps),
+        ("read fault", Status::ReadFault),
+        ("write fault", Status::WriteFault),
+        ("no memory", Status::NoMemory),
+        ("usage", Status::Usage),
+        ("limit", Status::Limit),
+    ];
+    for (asked, status) in rows {
+        push_count(log, asked, status.code() as u64)?;
+    }
+    Ok(())
+}
+
+/// Appends the answers of lines and statuses.
+pub fn answer(alloc: Global, log: &mut Vec<u8>) -> Result<(), NoMemory> {
+    push_heading(log, "lines of the trace")?;
+    let texts = Texts::new(alloc);
+    answer_moves(&texts, log)?;
+    push_heading(log, "statuses")?;
+    answer_statuses(log)
+}
