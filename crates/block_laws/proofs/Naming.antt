@@ -4,8 +4,8 @@ use Rattle.std.specs.Prelude.{flat_map}
 use Rattle.std.specs.List.{AllByRecursion as Each}
 use Rattle.script_model.specs.Syntax as syntax
 use Rattle.script_model.specs.Syntax.{Expression, Expressions, NoExpressions, AndExpression, Statement, Statements, Done, Then, Block, Begins, Blocks, NoBlocks, AndBlock}
-use Rattle.script_lang.specs.Flat.{flat_expression, flat_expressions, numbers_of, flat_statement, flat_statements, flat_blocks, flat_bodies}
-use Rattle.script_lang.specs.declared.node.Node.{Node}
+use Rattle.script_forms.specs.Flat.{flat_expression, flat_expressions, numbers_of, flat_statement, flat_statements, flat_blocks, flat_bodies}
+use Rattle.script_forms.specs.declared.node.Node.{Node}
 use Rattle.step_model.specs.Numbered.{number_of, blocks_from, blocks_of_statement, blocks_of_statements, blocks_of_branches}
 use Rattle.block_laws.specs.Beginnings.{blocks_named}
 use Rattle.block_laws.proofs.Lists.{each_both, each_first, each_second}

@@ -6,11 +6,11 @@ use Rattle.script_model.specs.Scripts.{Script}
 use Rattle.script_model.specs.Syntax.{Block}
 use Rattle.step_model.specs.Numbered.{number_of, blocks_from}
 use Rattle.script_laws.specs.Soundness.{Known, IsSoundBlock}
-use Rattle.script_lang.specs.Flat.{flat_block}
+use Rattle.script_forms.specs.Flat.{flat_block}
 use Rattle.script_lang.specs.Numbered.{IsNumberedBlock}
 use Rattle.script_lang.specs.Standing.{block_at}
-use Rattle.script_lang.specs.declared.node.Node.{Node}
-use Rattle.script_lang.specs.declared.node.Node.TheVariants as node
+use Rattle.script_forms.specs.declared.node.Node.{Node}
+use Rattle.script_forms.specs.declared.node.Node.TheVariants as node
 
 -- the blocks of a script, each body and those inside it, in reading order
 abbrev pub blocks_in : Script → List Block

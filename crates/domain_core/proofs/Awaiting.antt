@@ -7,7 +7,7 @@ use Rattle.eio_value.specs.declared.plain.Plain.{Plain}
 use Rattle.eio_value.specs.declared.raised.Raised.{Raised}
 use Rattle.row_model.specs.ContextCalls.{Contexts, Wait, called}
 use Rattle.row_model.specs.Contexts.{is_live}
-use Rattle.script_lang.specs.declared.node.Node.{Node}
+use Rattle.script_forms.specs.declared.node.Node.{Node}
 use Rattle.step_model.specs.Asks.{Ask}
 use Rattle.trace_out.specs.declared.line.Did.{Did}
 use Rattle.machine_model.specs.Domain as model

@@ -5,8 +5,8 @@ use Rattle.std.proofs.lemmas.List.Elements.{Contains-append_left}
 use Rattle.std.proofs.lemmas.Option.{slice_get_within, get_or_from_slice_get}
 use Rattle.eio_value.specs.declared.raised.Raised.{Raised}
 use Rattle.eio_value.specs.declared.value.Value.{Value}
-use Rattle.script_lang.specs.Flat.{nodes_of}
-use Rattle.script_lang.specs.declared.node.Node.{Node}
+use Rattle.script_forms.specs.Flat.{nodes_of}
+use Rattle.script_forms.specs.declared.node.Node.{Node}
 use Rattle.script_model.specs.Scripts.{Script}
 use Rattle.step_model.specs.Asks as ask
 use Rattle.row_model.specs.Contexts.{is_full}

@@ -1,7 +1,7 @@
 -- A fiber has ended: what is kept of it goes, and the definition's stands as ended.
 use Rattle.std.proofs.Common.{◌≡◌, ◌≢◌, inl, inr, ℕ, ◌<◌, Bool, List, [], length, Option, Some, None, slice_set, refl, ap, ◌∙◌, sym, subst, arith}
 use Rattle.eio_value.specs.declared.raised.Outcome.{Outcome}
-use Rattle.script_lang.specs.declared.node.Node.{Node}
+use Rattle.script_forms.specs.declared.node.Node.{Node}
 use Rattle.row_model.specs.ContextCalls.{Contexts}
 use Rattle.cancel_tree.specs.Ended.{left_by_end}
 use Rattle.machine_model.specs.Domain as model

@@ -8,7 +8,7 @@ use Rattle.eio_value.specs.declared.raised.Outcome.TheVariants as outcome
 use Rattle.eio_value.specs.declared.raised.Raised.{Raised}
 use Rattle.eio_value.specs.declared.raised.Raised.TheVariants as raised
 use Rattle.eio_value.specs.declared.value.Value.{Value}
-use Rattle.script_lang.specs.declared.node.Node.{Node}
+use Rattle.script_forms.specs.declared.node.Node.{Node}
 use Rattle.row_model.specs.Groups.{Group, BranchEnded, branch_ends, group_at, never_gathered, keeps_a_value, kept_value, outcome_in, wake_joiner, with_group}
 use Rattle.row_model.specs.Contexts.{is_live}
 use Rattle.row_model.specs.ContextCalls.{Contexts}

@@ -4,7 +4,7 @@ use Rattle.std.specs.Prelude.{IsSome}
 use Rattle.std.proofs.lemmas.Option.{same_Some}
 use Rattle.eio_value.specs.declared.value.Value.{Value}
 use Rattle.script_lang.specs.Standing.{block_at}
-use Rattle.script_lang.specs.declared.node.Node.{Node}
+use Rattle.script_forms.specs.declared.node.Node.{Node}
 use Rattle.fiber_step.specs.declared.ask.Ask.{Ask}
 use Rattle.fiber_step.specs.Kept.{position_of}
 use Rattle.fiber_step.specs.Placing.{ArePlaced}

@@ -9,10 +9,10 @@ use Rattle.trace_out.specs.declared.line.Said2.TheVariants as said
 use Rattle.script_model.specs.Scripts.{Script}
 use Rattle.script_model.specs.Syntax.{Block, Begins}
 use Rattle.script_laws.specs.Soundness.{IsSound, IsSoundBlock}
-use Rattle.script_lang.specs.Flat.{nodes_of}
+use Rattle.script_forms.specs.Flat.{nodes_of}
 use Rattle.script_lang.specs.Numbered.{HasNumbers, IsNumberedBlock}
 use Rattle.script_lang.specs.Standing.{block_at}
-use Rattle.script_lang.specs.declared.node.Node.{Node}
+use Rattle.script_forms.specs.declared.node.Node.{Node}
 use Rattle.step_model.specs.Asks as asks
 use Rattle.step_model.specs.Numbered.{number_of, block_numbered}
 use Rattle.step_model.specs.Replies.{Position, handled}

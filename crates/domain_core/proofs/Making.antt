@@ -1,6 +1,6 @@
 -- One fiber more on both sides.
 use Rattle.std.proofs.Common.{◌≡◌, ◌⊎◌, inl, inr, ℕ, zero, suc, ◌+◌, ◌<◌, Bool, List, [], ◌∷◌, ◌++◌, length, Option, Some, None, refl, ap, ◌∙◌, sym, subst, arith}
-use Rattle.script_lang.specs.declared.node.Node.{Node}
+use Rattle.script_forms.specs.declared.node.Node.{Node}
 use Rattle.machine_model.specs.Domain as model
 use Rattle.machine_model.specs.Domain.{DomainState, never_made, fiber_at, made}
 use Rattle.eio_value.specs.declared.raised.Outcome.TheVariants as outcome

@@ -14,9 +14,9 @@ use Rattle.fiber_step.specs.declared.ask.Ask.TheVariants as ask
 use Rattle.fiber_step.specs.Standing.{ask_of}
 use Rattle.machine_model.specs.Domain.{DomainState}
 use Rattle.machine_model.specs.Preparing.{Calls, Prepared, prepared}
-use Rattle.script_lang.specs.Flat.{nodes_of}
-use Rattle.script_lang.specs.declared.node.Forking.{Forking}
-use Rattle.script_lang.specs.declared.node.Forking.TheVariants as forking
+use Rattle.script_forms.specs.Flat.{nodes_of}
+use Rattle.script_forms.specs.declared.node.Forking.{Forking}
+use Rattle.script_forms.specs.declared.node.Forking.TheVariants as forking
 use Rattle.script_model.specs.Scripts.{Script}
 use Rattle.step_model.specs.Asks.{Ask as Called}
 use Rattle.well_laws.specs.WellStates.{CallsWell, IsRunnable, StandsWell}

@@ -3,7 +3,7 @@ use Rattle.std.proofs.Common.{◌≡◌, inl, inr, ℕ, ◌+◌, ◌-◌, ◌^�
 use Rattle.std.specs.Prelude.{count_by, is_some}
 use Rattle.std.specs.List.{Contains}
 use Rattle.row_model.specs.Contexts.{is_live}
-use Rattle.script_lang.specs.declared.node.Node.{Node}
+use Rattle.script_forms.specs.declared.node.Node.{Node}
 use Rattle.step_model.specs.Asks.{Ask}
 use Rattle.step_model.specs.Settling.{Settled}
 use Rattle.machine_model.specs.Domain.{Fiber, Next, Ready, Parked, ForOthers, Standing, DomainState, never_made, fiber_at, has_ended, live_fibers}

@@ -19,7 +19,7 @@ use Rattle.row_model.specs.ContextCalls.{End}
 use Rattle.row_model.specs.Contexts.{is_live}
 use Rattle.row_model.specs.Groups.{Group, group_at}
 use Rattle.row_model.specs.Switches.{Switch, switch_at}
-use Rattle.script_lang.specs.declared.node.Node.{Node}
+use Rattle.script_forms.specs.declared.node.Node.{Node}
 use Rattle.script_model.specs.Scripts.{Script}
 use Rattle.step_model.specs.Numbered.{block_numbered}
 use Rattle.switch_core.specs.Attaching.{IsAttached}

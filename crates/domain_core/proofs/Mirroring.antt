@@ -4,7 +4,7 @@ use Rattle.std.specs.Prelude.{IsSome}
 use Rattle.std.specs.Option.{option_map}
 use Rattle.std.proofs.lemmas.Option.{none-some}
 use Rattle.eio_value.specs.declared.raised.Outcome.{Outcome}
-use Rattle.script_lang.specs.declared.node.Node.{Node}
+use Rattle.script_forms.specs.declared.node.Node.{Node}
 use Rattle.machine_model.specs.Domain as model
 use Rattle.machine_model.specs.Domain.{Duty, DomainState, never_made, fiber_at, with_fiber, has_ended, stands, to_head, to_back}
 use Rattle.machine_model.specs.Steps.{Step}

@@ -3,7 +3,7 @@ use Rattle.std.proofs.Common.{◌≡◌, ℕ, ◌<◌, false, List, [], refl, ap
 use Rattle.eio_value.specs.declared.raised.Outcome.{Outcome}
 use Rattle.fiber_step.specs.declared.ask.Ask.{Ask}
 use Rattle.fiber_step.specs.Standing.{ask_of}
-use Rattle.script_lang.specs.Flat.{nodes_of}
+use Rattle.script_forms.specs.Flat.{nodes_of}
 use Rattle.script_model.specs.Scripts.{Script}
 use Rattle.script_model.specs.Syntax.{Plain, Daemon}
 use Rattle.step_model.specs.Asks as ask

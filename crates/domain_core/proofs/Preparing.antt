@@ -10,8 +10,8 @@ use Rattle.fiber_step.specs.declared.ask.Ask.{Ask}
 use Rattle.fiber_step.specs.Settling.{HasTextsOfOutcome}
 use Rattle.fiber_step.specs.Standing.{ask_of, works_of}
 use Rattle.row_model.specs.Contexts.{is_live}
-use Rattle.script_lang.specs.Flat.{nodes_of}
-use Rattle.script_lang.specs.declared.node.Node.{Node}
+use Rattle.script_forms.specs.Flat.{nodes_of}
+use Rattle.script_forms.specs.declared.node.Node.{Node}
 use Rattle.script_model.specs.Opening.{opening_texts}
 use Rattle.script_model.specs.Scripts.{Script}
 use Rattle.step_model.specs.Asks.{Ask as Called}

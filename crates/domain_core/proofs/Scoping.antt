@@ -6,7 +6,7 @@ use Rattle.std.proofs.lemmas.Option.{none-some, same_Some}
 use Rattle.eio_value.specs.declared.plain.Plain.{Plain}
 use Rattle.eio_value.specs.declared.raised.Raised.{Raised}
 use Rattle.eio_value.specs.Exceptions.{reason}
-use Rattle.script_lang.specs.declared.node.Node.{Node}
+use Rattle.script_forms.specs.declared.node.Node.{Node}
 use Rattle.row_model.specs.Contexts as contexts
 use Rattle.row_model.specs.Contexts.{Context, context_at, is_live, off, cancel, end, sub, protect, takes_effect, to_be_struck}
 use Rattle.row_model.specs.ContextCalls.{Contexts, Cancel, Protect, Sub, called}

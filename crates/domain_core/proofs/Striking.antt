@@ -10,7 +10,7 @@ use Rattle.eio_value.specs.declared.raised.Raised.{Raised}
 use Rattle.eio_value.specs.declared.raised.Raised.TheVariants.{Cancelled}
 use Rattle.row_model.specs.ContextCalls.{Contexts, Unwait, called}
 use Rattle.row_model.specs.Contexts.{is_live, off}
-use Rattle.script_lang.specs.declared.node.Node.{Node}
+use Rattle.script_forms.specs.declared.node.Node.{Node}
 use Rattle.trace_out.specs.declared.line.Did.TheVariants as did
 use Rattle.trace_out.specs.declared.line.Said2.TheVariants as said
 use Rattle.waiting_laws.specs.WhoWaits.{can_be_struck}

@@ -3,7 +3,7 @@ use Rattle.std.proofs.Common.{◌≡◌, inl, inr, ℕ, ◌<◌, ◌≤◌, true
 use Rattle.std.specs.List.{Contains}
 use Rattle.cancel_tree.specs.Waits.{waits}
 use Rattle.row_model.specs.Contexts.{is_live}
-use Rattle.script_lang.specs.Flat.{nodes_of}
+use Rattle.script_forms.specs.Flat.{nodes_of}
 use Rattle.script_model.specs.Scripts.{Script}
 use Rattle.waiting_laws.specs.WhoWaits.{can_be_struck, contexts_of}
 use Rattle.waiting_laws.proofs.Alike.{contexts_in_step, domains_in_step}

@@ -14,7 +14,7 @@ use Rattle.eio_value.specs.declared.mock_call.MockCall.{MockCall}
 use Rattle.eio_value.specs.Fitting.{Bounds, Submit, FitsMessage}
 use Rattle.eio_value.specs.Waits.{Open, IsForOpen}
 use Rattle.row_model.specs.ReadyList.{pop}
-use Rattle.script_lang.specs.Flat.{nodes_of}
+use Rattle.script_forms.specs.Flat.{nodes_of}
 use Rattle.script_model.specs.Scripts.{Script}
 use Rattle.trace_out.specs.declared.line.Did.{Did}
 use Rattle.trace_out.specs.declared.line.Line.{Line}

@@ -2,7 +2,7 @@
 -- The definitions keep fibers and contexts that have ended; what is kept stands for every domain that differs in those alone, or in
 -- what no built form uses: resume words, the clock and timers.
 use Rattle.std.specs.Prelude.{◌≡◌, ℕ, List, length, true, false, Option, Some, None}
-use Rattle.script_lang.specs.declared.node.Node.{Node}
+use Rattle.script_forms.specs.declared.node.Node.{Node}
 use Rattle.fiber_step.specs.Kept.{position_of}
 use Rattle.fiber_step.specs.Placing.{ArePlaced}
 use Rattle.machine_model.specs.Domain as model

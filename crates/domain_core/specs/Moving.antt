@@ -6,7 +6,7 @@ use Rattle.eio_value.specs.declared.raised.Outcome.{Outcome}
 use Rattle.fiber_step.specs.declared.ask.Ask.{Ask}
 use Rattle.fiber_step.specs.declared.ask.Ask.TheVariants as ask
 use Rattle.fiber_step.specs.Standing.{ask_of}
-use Rattle.script_lang.specs.Flat.{nodes_of}
+use Rattle.script_forms.specs.Flat.{nodes_of}
 use Rattle.script_model.specs.Scripts.{Script}
 use Rattle.step_model.specs.Asks.{Ask as Called}
 use Rattle.step_model.specs.Replies.{passed}

@@ -10,7 +10,7 @@ use Rattle.eio_value.specs.declared.message.Waiter.{Waiter}
 use Rattle.eio_value.specs.declared.mock_call.Extra.{Extra}
 use Rattle.eio_value.specs.declared.mock_call.MockCall.{MockCall}
 use Rattle.eio_value.specs.Waits.{struck_stamp}
-use Rattle.script_lang.specs.Flat.{nodes_of}
+use Rattle.script_forms.specs.Flat.{nodes_of}
 use Rattle.script_model.specs.Opening.{opening_texts}
 use Rattle.script_model.specs.Scripts.{Script}
 use Rattle.trace_out.specs.declared.line.Line.{Line}

@@ -7,7 +7,7 @@ ghost use Rattle.domain_kinds.specs.KindedStates.{handlers_of};
 ghost use Rattle.eio_value.specs.declared.raised.Outcome.TheVariants as outcome;
 ghost use Rattle.machine_model.specs.SwitchMoves.{runs};
 ghost use Rattle.row_model.specs.Switches.{switch_at};
-ghost use Rattle.script_lang.specs.Flat.{nodes_of};
+ghost use Rattle.script_forms.specs.Flat.{nodes_of};
 ghost use Rattle.step_model.specs.Asks as asks;
 ghost use Rattle.strike_queue.specs.Owing.{StrikesAtOnce};
 ghost use Rattle.domain_core.specs.Answering.{Answers, MakesUnder, SameCounts, closes_on};

@@ -2,7 +2,7 @@
 
 ghost use Rattle.std.specs.Prelude.{◌≡◌, ◌<◌, ◌-◌, ◌^◌, [], length, OnOk};
 ghost use Rattle.fiber_step.specs.Having.{HasStatements};
-ghost use Rattle.script_lang.specs.Flat.{nodes_of};
+ghost use Rattle.script_forms.specs.Flat.{nodes_of};
 ghost use Rattle.script_model.specs.Scripts.{Script as Read};
 ghost use Rattle.domain_core.specs.Answering.{Answers, SameCounts};
 ghost use Rattle.domain_core.specs.Conditions.{IsAwake, MayEndContext, RunsInLive};

@@ -7,7 +7,7 @@ ghost use Rattle.std.specs.Prelude.{◌≡◌, ◌<◌, ◌≤◌, ℕ, List, []
 ghost use Rattle.machine_model.specs.Mock as mock;
 ghost use Rattle.machine_model.specs.Trace as trace;
 ghost use Rattle.machine_model.specs.Domain.{DomainState};
-ghost use Rattle.script_lang.specs.declared.node.Node.{Node};
+ghost use Rattle.script_forms.specs.declared.node.Node.{Node};
 ghost use Rattle.well_laws.specs.WellStates.{IsRunnable};
 ghost use Rattle.domain_core.specs.Mirrors.{Mirrors};
 ghost use Rattle.domain_core.specs.Turns.{Starts};

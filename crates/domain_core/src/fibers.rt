@@ -17,8 +17,8 @@ ghost use Rattle.domain_core.specs.Stepping.{IsPlacedAt, Enters, Handles, Settle
 ghost use Rattle.fiber_step.specs.Having.{HasStatements};
 ghost use Rattle.fiber_step.specs.Settling.{HasTextsOfOutcome};
 ghost use Rattle.fiber_step.specs.Stepping.{HasBodiesOf};
-ghost use Rattle.script_lang.specs.Flat.{nodes_of};
-ghost use Rattle.script_lang.specs.declared.node.Node.{Node as Begun};
+ghost use Rattle.script_forms.specs.Flat.{nodes_of};
+ghost use Rattle.script_forms.specs.declared.node.Node.{Node as Begun};
 
 use crate::fiber::Fiber;
 use crate::standing::{Next, Role, Standing};

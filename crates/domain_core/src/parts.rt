@@ -17,7 +17,7 @@ ghost use Rattle.domain_core.specs.Keyed.{next_of};
 ghost use Rattle.domain_core.specs.Stepping.{IsPlacedAt};
 ghost use Rattle.fiber_step.specs.Standing.{ask_of};
 ghost use Rattle.fiber_step.specs.Stepping.{HasBodiesOf};
-ghost use Rattle.script_lang.specs.Flat.{nodes_of};
+ghost use Rattle.script_forms.specs.Flat.{nodes_of};
 
 use crate::domain::Domain;
 use crate::standing::{Next, Standing};

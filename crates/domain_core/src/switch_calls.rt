@@ -4,9 +4,9 @@ ghost use Rattle.std.specs.Prelude.{◌≡◌, ◌<◌, ◌+◌, ◌-◌, ◌≤
 ghost use Rattle.row_model.specs.Switches.{switch_at, refuses_fibers, refuses_forks};
 ghost use Rattle.fiber_step.specs.Having.{HasStatements};
 ghost use Rattle.machine_model.specs.SwitchMoves.{did_fork as did_of};
-ghost use Rattle.script_lang.specs.Calls.{forking_of};
-ghost use Rattle.script_lang.specs.Flat.{nodes_of};
-ghost use Rattle.script_lang.specs.declared.node.Node.{Node as Begun};
+ghost use Rattle.script_forms.specs.Calls.{forking_of};
+ghost use Rattle.script_forms.specs.Flat.{nodes_of};
+ghost use Rattle.script_forms.specs.declared.node.Node.{Node as Begun};
 ghost use Rattle.script_model.specs.Scripts.{Script as Read};
 ghost use Rattle.domain_core.specs.Answering.{Answers, Becomes, BecomesUnder, SameCounts, SameFibers, forking_by, forks, registers};
 ghost use Rattle.domain_core.specs.Conditions.{HasLiveContexts, IsAttachedToNone, IsAwake, RunsInLive};

@@ -7,8 +7,8 @@ ghost use Rattle.std.specs.Prelude.{◌≡◌, ◌≢◌, ◌<◌, ◌+◌, ◌�
 ghost use Rattle.fiber_step.specs.Standing.{ask_of};
 ghost use Rattle.fiber_step.specs.Stepping.{HasBodiesOf};
 ghost use Rattle.machine_model.specs.Domain.{DomainState};
-ghost use Rattle.script_lang.specs.Flat.{nodes_of};
-ghost use Rattle.script_lang.specs.declared.node.Node.{Node};
+ghost use Rattle.script_forms.specs.Flat.{nodes_of};
+ghost use Rattle.script_forms.specs.declared.node.Node.{Node};
 ghost use Rattle.well_laws.specs.WellStates.{IsRunnable};
 ghost use Rattle.domain_core.specs.Answering.{Answers, SameCounts};
 ghost use Rattle.domain_core.specs.Conditions.{RunsInLive};

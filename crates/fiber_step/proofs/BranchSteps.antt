@@ -6,12 +6,12 @@ use Rattle.eio_value.specs.declared.value.Value.TheVariants as value
 use Rattle.script_model.specs.Syntax as syntax
 use Rattle.script_model.specs.Syntax.{NoBlocks}
 use Rattle.script_laws.specs.Soundness.{HasItsBranches}
-use Rattle.script_lang.specs.Calls.{group_of}
+use Rattle.script_forms.specs.Calls.{group_of}
 use Rattle.script_lang.specs.Standing.{blocks_at, States}
-use Rattle.script_lang.specs.declared.node.Group.{Group}
-use Rattle.script_lang.specs.declared.node.Group.TheVariants as group
-use Rattle.script_lang.specs.declared.node.Node.{Node}
-use Rattle.script_lang.specs.declared.node.Node.TheVariants as node
+use Rattle.script_forms.specs.declared.node.Group.{Group}
+use Rattle.script_forms.specs.declared.node.Group.TheVariants as group
+use Rattle.script_forms.specs.declared.node.Node.{Node}
+use Rattle.script_forms.specs.declared.node.Node.TheVariants as node
 use Rattle.step_model.specs.Asks as model
 use Rattle.step_model.specs.Silent.{Past, asks, blocks_of, branched, statement}
 use Rattle.step_model.specs.Work.{Carry}

@@ -7,9 +7,9 @@ use Rattle.std.proofs.lemmas.List.{length_push}
 use Rattle.std.proofs.lemmas.Option.{slice_get_within}
 use Rattle.script_model.specs.Syntax.{Block, Begins, Done}
 use Rattle.script_lang.specs.Standing.{block_at, blocks_at}
-use Rattle.script_lang.specs.declared.node.Group.{Group}
-use Rattle.script_lang.specs.declared.node.Node.{Node}
-use Rattle.script_lang.specs.declared.node.Node.TheVariants as node
+use Rattle.script_forms.specs.declared.node.Group.{Group}
+use Rattle.script_forms.specs.declared.node.Node.{Node}
+use Rattle.script_forms.specs.declared.node.Node.TheVariants as node
 use Rattle.step_model.specs.Replies.{own_branch}
 use Rattle.step_model.specs.Silent.{blocks_of}
 use Rattle.fiber_step.specs.Entering.{HasBranches}

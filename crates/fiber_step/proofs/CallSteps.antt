@@ -5,13 +5,13 @@ use Rattle.eio_value.specs.declared.value.TextId.{TextId}
 use Rattle.eio_value.specs.declared.value.Value.{Value}
 use Rattle.script_model.specs.Syntax as syntax
 use Rattle.script_model.specs.Syntax.{Statement}
-use Rattle.script_lang.specs.Calls.{forking_of, object_call_of, reader_call_of}
+use Rattle.script_forms.specs.Calls.{forking_of, object_call_of, reader_call_of}
 use Rattle.script_lang.specs.Standing.{block_at}
-use Rattle.script_lang.specs.declared.node.Forking.{Forking}
-use Rattle.script_lang.specs.declared.node.Node.{Node}
-use Rattle.script_lang.specs.declared.node.Node.TheVariants as node
-use Rattle.script_lang.specs.declared.node.ObjectCall.{ObjectCall}
-use Rattle.script_lang.specs.declared.node.ReaderCall.{ReaderCall}
+use Rattle.script_forms.specs.declared.node.Forking.{Forking}
+use Rattle.script_forms.specs.declared.node.Node.{Node}
+use Rattle.script_forms.specs.declared.node.Node.TheVariants as node
+use Rattle.script_forms.specs.declared.node.ObjectCall.{ObjectCall}
+use Rattle.script_forms.specs.declared.node.ReaderCall.{ReaderCall}
 use Rattle.step_model.specs.Evaluation.{value_at, number_at}
 use Rattle.step_model.specs.Silent.{asks, statement}
 use Rattle.fiber_step.specs.Standing.{ask_of}

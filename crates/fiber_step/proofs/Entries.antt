@@ -4,9 +4,9 @@ use Rattle.std.specs.Prelude.{slice_get, OnOk}
 use Rattle.std.specs.List.{AllByRecursion as Each}
 use Rattle.eio_value.specs.declared.value.Value.{Value}
 use Rattle.script_lang.specs.Standing.{block_at}
-use Rattle.script_lang.specs.declared.node.Group.{Group}
-use Rattle.script_lang.specs.declared.node.Node.{Node}
-use Rattle.script_lang.specs.declared.node.Node.TheVariants as node
+use Rattle.script_forms.specs.declared.node.Group.{Group}
+use Rattle.script_forms.specs.declared.node.Node.{Node}
+use Rattle.script_forms.specs.declared.node.Node.TheVariants as node
 use Rattle.step_model.specs.Replies.{Position, into}
 use Rattle.step_model.specs.Silent.{items_of}
 use Rattle.step_model.specs.Work as work

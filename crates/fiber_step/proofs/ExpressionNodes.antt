@@ -4,12 +4,12 @@ use Rattle.std.proofs.lemmas.Grind.{common_steps}
 use Rattle.eio_value.specs.declared.value.TextId.{TextId}
 use Rattle.script_model.specs.Syntax as syntax
 use Rattle.script_model.specs.Syntax.{Expression}
-use Rattle.script_lang.specs.Calls.{operator_in}
-use Rattle.script_lang.specs.Flat.{flat_expression}
+use Rattle.script_forms.specs.Calls.{operator_in}
+use Rattle.script_forms.specs.Flat.{flat_expression}
 use Rattle.script_lang.specs.Standing.{expression_at, behind_expression}
-use Rattle.script_lang.specs.declared.node.Node.{Node}
-use Rattle.script_lang.specs.declared.node.Node.TheVariants as node
-use Rattle.script_lang.specs.declared.node.Operator.{Operator}
+use Rattle.script_forms.specs.declared.node.Node.{Node}
+use Rattle.script_forms.specs.declared.node.Node.TheVariants as node
+use Rattle.script_forms.specs.declared.node.Operator.{Operator}
 use Rattle.fiber_step.specs.Having.{HasExpression}
 use Rattle.fiber_step.proofs.Places.{Here, IsAt, behind_these, first_here, same_node, expression_here}
 

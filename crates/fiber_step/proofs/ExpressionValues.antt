@@ -4,12 +4,12 @@ use Rattle.eio_value.specs.declared.plain.Plain.{Plain}
 use Rattle.eio_value.specs.declared.value.TextId.{TextId}
 use Rattle.eio_value.specs.declared.value.Value.{Value}
 use Rattle.eio_value.specs.declared.value.Value.TheVariants as value
-use Rattle.script_lang.specs.Calls.{operator_of}
-use Rattle.script_lang.specs.Flat.{flat_expression}
+use Rattle.script_forms.specs.Calls.{operator_of}
+use Rattle.script_forms.specs.Flat.{flat_expression}
 use Rattle.script_lang.specs.Standing.{expression_at, behind_expression, Stands}
-use Rattle.script_lang.specs.declared.node.Node.{Node}
-use Rattle.script_lang.specs.declared.node.Node.TheVariants as node
-use Rattle.script_lang.specs.declared.node.Operator.{Operator}
+use Rattle.script_forms.specs.declared.node.Node.{Node}
+use Rattle.script_forms.specs.declared.node.Node.TheVariants as node
+use Rattle.script_forms.specs.declared.node.Operator.{Operator}
 use Rattle.step_model.specs.Evaluation.{Evaluated, Is, Raises, value_at, value_of, ◌then◌, operated}
 
 -- what a node that begins an expression says of it

@@ -6,10 +6,10 @@ use Rattle.std.proofs.lemmas.Option.{slice_get_within, get_or_from_slice_get}
 use Rattle.script_model.specs.Scripts.{Script}
 use Rattle.script_model.specs.Syntax.{Block, Begins, Statements}
 use Rattle.script_laws.specs.Soundness.{Known, IsSound, IsSoundBlock, in_body, kinds_of}
-use Rattle.script_lang.specs.Flat.{flat_statements, flat_bodies, nodes_of}
+use Rattle.script_forms.specs.Flat.{flat_statements, flat_bodies, nodes_of}
 use Rattle.script_lang.specs.Numbered.{AreNumbered, IsNumberedBlock, AreNumberedBodies, HasNumbers}
 use Rattle.script_lang.specs.Standing.{statements_at, block_at}
-use Rattle.script_lang.specs.declared.node.Node.{Node}
+use Rattle.script_forms.specs.declared.node.Node.{Node}
 use Rattle.fiber_step.specs.Having.{HasStatements}
 use Rattle.fiber_step.proofs.Places.{Here, behind_these, in_turn}
 

@@ -5,13 +5,13 @@ use Rattle.eio_value.specs.declared.value.TextId.{TextId}
 use Rattle.eio_value.specs.declared.value.Value.{Value}
 use Rattle.script_model.specs.Syntax as syntax
 use Rattle.script_model.specs.Syntax.{Statement}
-use Rattle.script_lang.specs.Calls.{object_call_with_of, path_call_of, directory_of}
+use Rattle.script_forms.specs.Calls.{object_call_with_of, path_call_of, directory_of}
 use Rattle.script_lang.specs.Standing.{block_at, expression_at, behind_expression, expressions_at, behind_expressions}
-use Rattle.script_lang.specs.declared.node.Directory.{Directory}
-use Rattle.script_lang.specs.declared.node.Node.{Node}
-use Rattle.script_lang.specs.declared.node.Node.TheVariants as node
-use Rattle.script_lang.specs.declared.node.ObjectCallWith.{ObjectCallWith}
-use Rattle.script_lang.specs.declared.node.PathCall.{PathCall}
+use Rattle.script_forms.specs.declared.node.Directory.{Directory}
+use Rattle.script_forms.specs.declared.node.Node.{Node}
+use Rattle.script_forms.specs.declared.node.Node.TheVariants as node
+use Rattle.script_forms.specs.declared.node.ObjectCallWith.{ObjectCallWith}
+use Rattle.script_forms.specs.declared.node.PathCall.{PathCall}
 use Rattle.step_model.specs.Asks as model
 use Rattle.step_model.specs.Evaluation.{Is, Raises, number_at, value_of, values_of, number_of, text_of}
 use Rattle.step_model.specs.Silent.{asks, place_in, statement, with_value}

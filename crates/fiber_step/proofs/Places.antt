@@ -4,11 +4,11 @@ use Rattle.std.specs.Prelude.{slice_get}
 use Rattle.std.proofs.lemmas.List.{drop-drop}
 use Rattle.std.proofs.Math.Seq.{drop-append_seam}
 use Rattle.script_model.specs.Syntax.{Expression}
-use Rattle.script_lang.specs.Flat.{flat_expression}
+use Rattle.script_forms.specs.Flat.{flat_expression}
 use Rattle.script_lang.specs.ScriptCode.{unflat_expression}
 use Rattle.script_lang.specs.Standing.{expression_at}
 use Rattle.script_lang.specs.Unflat.{operand, unflat}
-use Rattle.script_lang.specs.declared.node.Node.{Node}
+use Rattle.script_forms.specs.declared.node.Node.{Node}
 
 -- these nodes stand from this number on
 abbrev pub Here : List Node → (at : ℕ) → List Node → Type 0

@@ -1,7 +1,7 @@
 -- Where a fiber stands once items were pushed onto its work.
 use Rattle.std.proofs.Common.{◌≡◌, ℕ, List, [], ◌∷◌, ◌++◌, reverse, map, ap, ◌∙◌, arith}
 use Rattle.std.proofs.lemmas.Grind.{common_steps}
-use Rattle.script_lang.specs.declared.node.Node.{Node}
+use Rattle.script_forms.specs.declared.node.Node.{Node}
 use Rattle.fiber_step.specs.Standing.{work_of, works_of}
 use Rattle.fiber_step.specs.declared.item.Item.{Item}
 use Rattle.fiber_step.specs.declared.item.Item.TheVariants as item

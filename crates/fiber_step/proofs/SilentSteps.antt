@@ -6,12 +6,12 @@ use Rattle.eio_value.specs.declared.value.Value.{Value}
 use Rattle.eio_value.specs.declared.value.Value.TheVariants as value
 use Rattle.script_model.specs.Syntax as syntax
 use Rattle.script_model.specs.Syntax.{Expression, Statement, Statements, Block, Then}
-use Rattle.script_lang.specs.Flat.{flat_statements}
+use Rattle.script_forms.specs.Flat.{flat_statements}
 use Rattle.script_lang.specs.ScriptCode.{unflat_statements}
 use Rattle.script_lang.specs.Standing.{statements_at, block_at, expression_at, behind_expression, States}
 use Rattle.script_lang.specs.Unflat.{Behind, first_rest, bound, unflat}
-use Rattle.script_lang.specs.declared.node.Node.{Node}
-use Rattle.script_lang.specs.declared.node.Node.TheVariants as node
+use Rattle.script_forms.specs.declared.node.Node.{Node}
+use Rattle.script_forms.specs.declared.node.Node.TheVariants as node
 use Rattle.step_model.specs.Evaluation.{Is, Raises, value_of, number_of}
 use Rattle.step_model.specs.Silent.{Past, within, is_zero, repeated, statement, block}
 use Rattle.step_model.specs.Work as work

@@ -3,8 +3,8 @@ use Rattle.std.proofs.Common.{◌≡◌, ℕ, List, Bool, true, false, Option, S
 use Rattle.std.specs.Prelude.{slice_get}
 use Rattle.eio_value.specs.declared.value.TextId.{TextId}
 use Rattle.eio_value.specs.declared.value.Value.{Value}
-use Rattle.script_lang.specs.declared.node.Node.{Node}
-use Rattle.script_lang.specs.declared.node.Node.TheVariants as node
+use Rattle.script_forms.specs.declared.node.Node.{Node}
+use Rattle.script_forms.specs.declared.node.Node.TheVariants as node
 use Rattle.fiber_step.specs.Calling.{is_bare, has_own_block, hands_on, is_group, has_marks, has_operands, is_of_path, is_silent}
 use Rattle.fiber_step.specs.Having.{HasParts}
 use Rattle.fiber_step.specs.Stepping.{IsStepIf}

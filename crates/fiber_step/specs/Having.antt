@@ -5,12 +5,12 @@ use Rattle.std.specs.List.{AllByRecursion as Each}
 use Rattle.script_model.specs.Limits.{most_traced, most_captured}
 use Rattle.script_model.specs.Syntax.{Expression, Statement, Statements, Then}
 use Rattle.script_laws.specs.Soundness.{Known, IsSoundStatement, AreSoundStatements, HasItsBranches}
-use Rattle.script_lang.specs.Calls.{group_of}
-use Rattle.script_lang.specs.Flat.{flat_expression, flat_statements}
+use Rattle.script_forms.specs.Calls.{group_of}
+use Rattle.script_forms.specs.Flat.{flat_expression, flat_statements}
 use Rattle.script_lang.specs.Numbered.{AreNumbered}
 use Rattle.script_lang.specs.Standing.{behind_expression, behind_expressions}
-use Rattle.script_lang.specs.declared.node.Node.{Node}
-use Rattle.script_lang.specs.declared.node.Node.TheVariants as node
+use Rattle.script_forms.specs.declared.node.Node.{Node}
+use Rattle.script_forms.specs.declared.node.Node.TheVariants as node
 
 -- an expression begins at this number
 pub record HasExpression (nodes : List Node) (number : ℕ) : Type 0 where

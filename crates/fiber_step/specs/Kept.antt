@@ -1,7 +1,7 @@
 -- A fiber as it is kept: its items have the numbers of nodes in place of statements, and the next one is the last.
 use Rattle.std.specs.Prelude.{List}
 use Rattle.eio_value.specs.declared.value.Value.{Value}
-use Rattle.script_lang.specs.declared.node.Node.{Node}
+use Rattle.script_forms.specs.declared.node.Node.{Node}
 use Rattle.step_model.specs.Replies.{Position}
 use Rattle.fiber_step.specs.Standing.{works_of}
 use Rattle.fiber_step.specs.declared.item.Item.{Item}

@@ -1,7 +1,7 @@
 -- What holds of a fiber's items: the blocks that they name stand among the nodes of its script.
 use Rattle.std.specs.Prelude.{◌<◌, ◌+◌, ◌^◌, List}
 use Rattle.std.specs.List.{All}
-use Rattle.script_lang.specs.declared.node.Node.{Node}
+use Rattle.script_forms.specs.declared.node.Node.{Node}
 use Rattle.fiber_step.specs.Having.{HasStatements}
 use Rattle.fiber_step.specs.declared.item.Item.{Item}
 use Rattle.fiber_step.specs.declared.item.Item.TheVariants as item

@@ -3,8 +3,8 @@ use Rattle.std.specs.Prelude.{◌≡◌, ◌<◌, ◌^◌, ◌+◌, ℕ, zero, s
 use Rattle.script_model.specs.Syntax.{Statement, LetForm, Statements}
 use Rattle.script_lang.specs.Standing.{statements_at, Stands}
 use Rattle.script_lang.specs.Unflat.{bound}
-use Rattle.script_lang.specs.declared.node.Node.{Node}
-use Rattle.script_lang.specs.declared.node.Node.TheVariants as node
+use Rattle.script_forms.specs.declared.node.Node.{Node}
+use Rattle.script_forms.specs.declared.node.Node.TheVariants as node
 use Rattle.step_model.specs.Silent.{statement}
 use Rattle.step_model.specs.Work.{Carry, restored}
 use Rattle.fiber_step.specs.Calling.{statement_at}

@@ -9,10 +9,10 @@ use Rattle.eio_value.specs.declared.value.Value.TheVariants as value
 use Rattle.script_model.specs.Syntax as syntax
 use Rattle.script_lang.specs.Standing.{statements_at, block_at}
 use Rattle.script_lang.specs.Texted.{IsAmong}
-use Rattle.script_lang.specs.declared.node.Group.{Group}
-use Rattle.script_lang.specs.declared.node.Group.TheVariants as group
-use Rattle.script_lang.specs.declared.node.Node.{Node}
-use Rattle.script_lang.specs.declared.node.Node.TheVariants as node
+use Rattle.script_forms.specs.declared.node.Group.{Group}
+use Rattle.script_forms.specs.declared.node.Group.TheVariants as group
+use Rattle.script_forms.specs.declared.node.Node.{Node}
+use Rattle.script_forms.specs.declared.node.Node.TheVariants as node
 use Rattle.step_model.specs.Silent.{Went, Past, within, raises, asks, repeats, statement, block}
 use Rattle.step_model.specs.Work.{Carry, bound}
 use Rattle.fiber_step.specs.Calling.{statement_at}

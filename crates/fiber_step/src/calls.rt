@@ -5,7 +5,7 @@ ghost use Rattle.eio_value.specs.declared.value.Value.{Value as Item};
 ghost use Rattle.fiber_step.specs.Calling.{is_bare, has_own_block, hands_on};
 ghost use Rattle.fiber_step.specs.Having.{BeginsStatement};
 ghost use Rattle.fiber_step.specs.Stepping.{IsStepIf};
-ghost use Rattle.script_lang.specs.Flat.{nodes_of};
+ghost use Rattle.script_forms.specs.Flat.{nodes_of};
 ghost use Rattle.script_model.specs.Limits.{most_captured};
 ghost use Rattle.step_model.specs.Evaluation.{value_at};
 

@@ -8,9 +8,9 @@ ghost use Rattle.fiber_step.specs.Placing.{ArePlaced};
 ghost use Rattle.fiber_step.specs.Stepping.{HasBranchBodies, HasBodiesOf};
 ghost use Rattle.fiber_step.specs.Kept.{position_of};
 ghost use Rattle.fiber_step.specs.Standing.{ask_of, branches_at};
-ghost use Rattle.script_lang.specs.Flat.{nodes_of};
+ghost use Rattle.script_forms.specs.Flat.{nodes_of};
 ghost use Rattle.script_lang.specs.Standing.{block_at};
-ghost use Rattle.script_lang.specs.declared.node.Node.{Node as Begun};
+ghost use Rattle.script_forms.specs.declared.node.Node.{Node as Begun};
 ghost use Rattle.step_model.specs.Replies as model;
 ghost use Rattle.step_model.specs.Silent.{blocks_of};
 

@@ -4,7 +4,7 @@ ghost use Rattle.std.specs.Prelude.{◌≡◌, List, Some, None, IfSome};
 ghost use Rattle.fiber_step.specs.Standing.{ask_of, Ends, failed_in, value_in, unlocked};
 ghost use Rattle.fiber_step.specs.Stepping.{HasBodiesOf};
 ghost use Rattle.fiber_step.specs.Unwinding.{stops};
-ghost use Rattle.script_lang.specs.declared.node.Node.{Node};
+ghost use Rattle.script_forms.specs.declared.node.Node.{Node};
 ghost use Rattle.step_model.specs.Asks as model;
 
 use crate::ask::Ask;

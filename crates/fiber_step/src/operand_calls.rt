@@ -5,8 +5,8 @@ ghost use Rattle.fiber_step.specs.Calling.{has_operands, is_of_path};
 ghost use Rattle.fiber_step.specs.Having.{BeginsStatement};
 ghost use Rattle.fiber_step.specs.Standing.{place_of};
 ghost use Rattle.fiber_step.specs.Stepping.{IsStepOrRaiseIf};
-ghost use Rattle.script_lang.specs.Calls.{directory_of};
-ghost use Rattle.script_lang.specs.Flat.{nodes_of};
+ghost use Rattle.script_forms.specs.Calls.{directory_of};
+ghost use Rattle.script_forms.specs.Flat.{nodes_of};
 ghost use Rattle.step_model.specs.Silent.{place_in};
 
 use crate::ask::{Ask, Place};

@@ -23,7 +23,7 @@ impl<'f> Draft<'f> {
     ghost use Rattle.std.specs.Prelude.{◌+◌, ◌<◌, ◌^◌, List, false, length, IfOk, OnOk};
     ghost use Rattle.eio_value.specs.declared.raised.Outcome.TheVariants as outcome;
     ghost use Rattle.eio_value.specs.declared.value.Value.{Value as Held};
-    ghost use Rattle.script_lang.specs.declared.node.Node.{Node as Begun};
+    ghost use Rattle.script_forms.specs.declared.node.Node.{Node as Begun};
     ghost use Rattle.fiber_step.specs.Placing.{HasFewTurns};
     ghost use Rattle.fiber_step.specs.Standing.{is_end};
     ghost use Rattle.fiber_step.specs.Turning.{with_mark, gone_into, kept_to, cut_to, naming, IsTurn, is_run};

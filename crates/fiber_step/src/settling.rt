@@ -9,7 +9,7 @@ ghost use Rattle.fiber_step.specs.Placing.{IsPlacedMark, ArePlaced};
 ghost use Rattle.fiber_step.specs.Settling.{SettlesTo, HasTextsOfOutcome};
 ghost use Rattle.fiber_step.specs.Stepping.{HasBodiesOf};
 ghost use Rattle.fiber_step.specs.Throwing.{shared_by, IsGrown, IsTurnWith};
-ghost use Rattle.script_lang.specs.Flat.{nodes_of};
+ghost use Rattle.script_forms.specs.Flat.{nodes_of};
 
 use crate::ask::Ask;
 use crate::draft::{Draft, Taken};

@@ -5,8 +5,8 @@ ghost use Rattle.eio_value.specs.declared.value.Value.{Value as Item};
 ghost use Rattle.fiber_step.specs.Calling.{has_marks, is_group, is_silent};
 ghost use Rattle.fiber_step.specs.Having.{BeginsStatement};
 ghost use Rattle.fiber_step.specs.Stepping.{IsStepIf, IsStepOf, HasFewLeft, repeats_step, unbranched};
-ghost use Rattle.script_lang.specs.Flat.{nodes_of};
-ghost use Rattle.script_lang.specs.declared.node.Node.{Node as Begun};
+ghost use Rattle.script_forms.specs.Flat.{nodes_of};
+ghost use Rattle.script_forms.specs.declared.node.Node.{Node as Begun};
 ghost use Rattle.step_model.specs.Silent.{is_zero};
 
 use crate::ask::Ask;

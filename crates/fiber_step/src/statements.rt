@@ -3,7 +3,7 @@
 ghost use Rattle.std.specs.Prelude.{◌≡◌, ◌≤◌, ◌<◌, ◌^◌, length, List, IfOk, OnOk};
 ghost use Rattle.fiber_step.specs.Having.{BeginsStatement, HasStatements};
 ghost use Rattle.fiber_step.specs.Stating.{IsForm};
-ghost use Rattle.script_lang.specs.Flat.{nodes_of};
+ghost use Rattle.script_forms.specs.Flat.{nodes_of};
 
 use crate::ask::Ask;
 use crate::draft::Draft;
@@ -31,8 +31,8 @@ impl<'f> Draft<'f> {
     ghost use Rattle.eio_value.specs.declared.value.Value.{Value as Held};
     ghost use Rattle.std.specs.Prelude.{◌+◌, ℕ, true};
     ghost use Rattle.script_lang.specs.Standing.{Stands};
-    ghost use Rattle.script_lang.specs.declared.node.Node.{Node as Begun};
-    ghost use Rattle.script_lang.specs.declared.node.Node.TheVariants as node;
+    ghost use Rattle.script_forms.specs.declared.node.Node.{Node as Begun};
+    ghost use Rattle.script_forms.specs.declared.node.Node.TheVariants as node;
     ghost use Rattle.fiber_step.specs.Having.{HasExpression};
     ghost use Rattle.fiber_step.specs.Stepping.{IsStepped};
     ghost use Rattle.fiber_step.specs.Stating.{binding, NoGive, is_entering, IsLastStep, RaisesWithin, IsSilentStep, IsDoneBy};

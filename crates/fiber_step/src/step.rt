@@ -6,7 +6,7 @@
 ghost use Rattle.std.specs.Prelude.{length};
 ghost use Rattle.fiber_step.specs.Having.{BeginsStatement};
 ghost use Rattle.fiber_step.specs.Stepping.{IsStepOf};
-ghost use Rattle.script_lang.specs.Flat.{nodes_of};
+ghost use Rattle.script_forms.specs.Flat.{nodes_of};
 
 use crate::ask::Ask;
 use crate::calls::{call_at_once, call_with_block, call_with_job};

@@ -16,8 +16,8 @@ use Rattle.well_laws.specs.WellStates.{IsRunnable, StandsWell}
 use Rattle.domain_core.specs.Keeping.{KeptDomain}
 use Rattle.domain_core.specs.Mirrors.{Mirrors}
 use Rattle.domain_core.specs.Turns.{StandsFor}
-use Rattle.script_lang.specs.Flat.{nodes_of}
-use Rattle.script_lang.specs.declared.node.Node.{Node}
+use Rattle.script_forms.specs.Flat.{nodes_of}
+use Rattle.script_forms.specs.declared.node.Node.{Node}
 use Rattle.mock_backend.specs.Causes.{EndsRaised}
 use Rattle.mock_backend.specs.Scripts.{IsOfRun}
 use Rattle.mock_backend.proofs.EndCauses.{ends_raised}

@@ -6,8 +6,8 @@ use Rattle.script_model.specs.Refusals.{TooLong, NoTree, NoScript, MockOnly, Dom
 use Rattle.script_model.specs.Refusals as refusals
 use Rattle.script_tree.specs.declared.fault.TreeFault.{TreeFault}
 use Rattle.script_tree.specs.declared.fault.TreeFault.TheVariants as tree_fault
-use Rattle.script_lang.specs.declared.fault.ScriptFault.{ScriptFault}
-use Rattle.script_lang.specs.declared.fault.ScriptFault.TheVariants as script_fault
+use Rattle.script_forms.specs.declared.fault.ScriptFault.{ScriptFault}
+use Rattle.script_forms.specs.declared.fault.ScriptFault.TheVariants as script_fault
 use Rattle.script_input.specs.declared.fault.InputFault.{InputFault}
 use Rattle.script_input.specs.declared.fault.InputFault.TheVariants as fault
 use Rattle.script_input.specs.declared.refusal.Kind.{Kind}

@@ -13,7 +13,7 @@ use Rattle.script_model.specs.Statements.{form_node, block_of, statements, state
 use Rattle.script_model.specs.Syntax as syntax
 use Rattle.script_model.specs.Syntax.{Statement, Block, Begins, Statements, Done, Then, Blocks, NoBlocks, AndBlock}
 use Rattle.script_model.specs.Trees.{Tree, Word, Branch, Trees, Nil, And, place_of}
-use Rattle.script_lang.specs.Flat.{flat_expression, flat_expressions, flat_statement, flat_statements, flat_blocks, flat_block}
+use Rattle.script_forms.specs.Flat.{flat_expression, flat_expressions, flat_statement, flat_statements, flat_blocks, flat_block}
 use Rattle.script_lang.specs.Numbered.{IsNumbered, IsNumberedBlock, AreNumbered, AreNumberedBlocks}
 use Rattle.script_lang.proofs.NodeCounts.{From, given, refused, going_on, moved, past, test_keeps, failure_keeps, number_keeps, bring_keeps, used_keeps, directory_keeps, captured_keeps, node_counts, form_node_counts, alone, with_inner, with_two, two_rows, expression_counts, traced_counts, same_Ok, both_gave}
 

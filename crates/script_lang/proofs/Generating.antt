@@ -6,9 +6,9 @@ use Rattle.script_model.specs.Scripts.{Script, script_of}
 use Rattle.script_model.specs.Trees.{Tree}
 use Rattle.script_laws.specs.Generated.{IsScript}
 use Rattle.script_laws.proofs.Generated.{generated_is_read}
-use Rattle.script_lang.specs.Readings.{Fails}
-use Rattle.script_lang.specs.declared.fault.ScriptFault.{ScriptFault}
-use Rattle.script_lang.specs.declared.fault.ScriptFault.TheVariants as fault
+use Rattle.script_draft.specs.Readings.{Fails}
+use Rattle.script_forms.specs.declared.fault.ScriptFault.{ScriptFault}
+use Rattle.script_forms.specs.declared.fault.ScriptFault.TheVariants as fault
 
 given_or_refused : (script : Script) (f : model.ScriptFault) (r : Result Script model.ScriptFault) → r ≡ Ok script → r ≡ Err f → ⊥
 given_or_refused script f r one other = cc

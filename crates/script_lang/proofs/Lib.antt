@@ -1,9 +1,3 @@
-pub mod Cursors
-pub mod FormsFound
-pub mod TextsAhead
-pub mod StatementsRead
-pub mod FormsRead
-pub mod BranchesRead
 pub mod OwnTexts
 pub mod NodeCounts
 pub mod BlockNumbers
@@ -15,17 +9,6 @@ pub mod TextsRead
 pub mod NodeTexts
 pub mod Fitting
 pub mod ScriptMade
-pub mod Steps
-pub mod Counts
-pub mod ExpressionsRead
-pub mod Within
-pub mod BodiesRead
-pub mod DeclarationsRead
-pub mod FlowStepsRead
-pub mod EntriesRead
-pub mod LeavesRead
-pub mod ScopesSeen
-pub mod Counting
 pub mod Building
 pub mod Generating
 pub mod Openings

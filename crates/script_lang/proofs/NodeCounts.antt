@@ -19,8 +19,8 @@ use Rattle.script_model.specs.Statements.{form_node}
 use Rattle.script_model.specs.Syntax as syntax
 use Rattle.script_model.specs.Syntax.{Expression, Expressions, Directory}
 use Rattle.script_model.specs.Trees.{Tree, Word, Number, Text, Branch, Trees, Nil, And, place_of}
-use Rattle.script_lang.specs.Flat.{flat_expression, flat_expressions}
-use Rattle.script_lang.specs.declared.node.Node.{Node}
+use Rattle.script_forms.specs.Flat.{flat_expression, flat_expressions}
+use Rattle.script_forms.specs.declared.node.Node.{Node}
 
 -- ## Steps
 

@@ -5,9 +5,9 @@ use Rattle.std.specs.List.{AllByRecursion as Each}
 use Rattle.script_model.specs.Scripts.{Script}
 use Rattle.script_model.specs.Syntax as syntax
 use Rattle.script_model.specs.Syntax.{Expression, Expressions, Statement, Statements, Done, Then, Block, Begins, Blocks, NoBlocks, AndBlock}
-use Rattle.script_lang.specs.Flat.{flat_expression, flat_expressions, flat_statement, flat_statements, flat_blocks, flat_bodies, nodes_of}
+use Rattle.script_forms.specs.Flat.{flat_expression, flat_expressions, flat_statement, flat_statements, flat_blocks, flat_bodies, nodes_of}
 use Rattle.script_lang.specs.Texted.{HasTextsOf, HaveTextsOf, HasTextsOfStatement, HasTextsOfBlock, HaveTextsOfStatements, HaveTextsOfBlocks, HasTextOfNode, HasBodyTexts}
-use Rattle.script_lang.specs.declared.node.Node.{Node}
+use Rattle.script_forms.specs.declared.node.Node.{Node}
 
 abbrev Have : (n : ℕ) → List Node → Type 0
 Have n nodes = Each (HasTextOfNode n) nodes

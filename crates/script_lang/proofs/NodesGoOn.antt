@@ -5,10 +5,10 @@ use Rattle.std.specs.List.{AllByRecursion as Each}
 use Rattle.script_model.specs.Scripts.{Script}
 use Rattle.script_model.specs.Syntax as syntax
 use Rattle.script_model.specs.Syntax.{Expression, Expressions, Statement, Statements, Done, Then, Block, Begins, Blocks, NoBlocks, AndBlock}
-use Rattle.script_lang.specs.Flat.{flat_expression, flat_expressions, number_of, numbers_of, flat_statement, flat_statements, flat_blocks, flat_bodies, nodes_of}
+use Rattle.script_forms.specs.Flat.{flat_expression, flat_expressions, number_of, numbers_of, flat_statement, flat_statements, flat_blocks, flat_bodies, nodes_of}
 use Rattle.script_lang.specs.Numbered.{IsNumbered, IsNumberedBlock, AreNumbered, AreNumberedBlocks, AreNumberedBodies, HasNumbers}
 use Rattle.script_lang.specs.Standing.{GoesOn}
-use Rattle.script_lang.specs.declared.node.Node.{Node}
+use Rattle.script_forms.specs.declared.node.Node.{Node}
 
 Go : (count at : ℕ) → List Node → Type 0
 Go count at [] = Unit {0}

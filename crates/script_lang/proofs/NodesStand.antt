@@ -7,14 +7,14 @@ use Rattle.std.proofs.Math.Seq.{drop-append_seam}
 use Rattle.script_model.specs.Scripts.{Script}
 use Rattle.script_model.specs.Syntax as syntax
 use Rattle.script_model.specs.Syntax.{Expression, Expressions, NoExpressions, AndExpression, Statement, Statements, Done, Then, Block, Begins, Blocks, NoBlocks, AndBlock}
-use Rattle.script_lang.specs.Calls.{operator_in, operator_of, object_call_in, object_call_with_in, object_call_with_of, reader_call_in, path_call_in, path_call_of, group_in, group_of, forking_in, forking_of, directory_in, directory_of}
-use Rattle.script_lang.specs.Flat.{flat_expression, flat_expressions, expression_count, numbers_of, flat_statement, flat_statements, flat_blocks, number_of, flat_bodies, nodes_of}
+use Rattle.script_forms.specs.Calls.{operator_in, operator_of, object_call_in, object_call_with_in, object_call_with_of, reader_call_in, path_call_in, path_call_of, group_in, group_of, forking_in, forking_of, directory_in, directory_of}
+use Rattle.script_forms.specs.Flat.{flat_expression, flat_expressions, expression_count, numbers_of, flat_statement, flat_statements, flat_blocks, number_of, flat_bodies, nodes_of}
 use Rattle.script_lang.specs.Numbered.{IsNumbered, IsNumberedBlock, AreNumbered, AreNumberedBlocks, AreNumberedBodies, HasNumbers}
 use Rattle.script_lang.specs.ScriptCode.{unflat_expression, unflat_statement, unflat_statements, operator_back, object_call_back, object_call_with_back, reader_call_back, path_call_back, group_back, forking_back, directory_back}
 use Rattle.script_lang.specs.Standing.{statements_at, block_at, blocks_at, expression_at, behind_expression, expressions_at, behind_expressions, States, Stands, AllStand}
 use Rattle.script_lang.specs.Unflat.{Behind, first_rest, operand, bound, unflat}
-use Rattle.script_lang.specs.declared.node.Node.{Node}
-use Rattle.script_lang.specs.declared.node.Node.TheVariants as node
+use Rattle.script_forms.specs.declared.node.Node.{Node}
+use Rattle.script_forms.specs.declared.node.Node.TheVariants as node
 use Rattle.script_lang.proofs.NodeCounts.{alone, with_inner, with_two, two_rows}
 
 none_some : {A : Type 0} (x : A) → None ≡ Some x → ⊥

@@ -12,7 +12,7 @@ use Rattle.eio_value.specs.declared.value.TextId.{TextId}
 use Rattle.eio_value.specs.Exceptions.{plain_text}
 use Rattle.eio_value.specs.Table.{HasText, Interned, text_id}
 use Rattle.script_model.specs.Opening.{textless, with_text, with_bound}
-use Rattle.script_lang.specs.Drafts.{HasFailures}
+use Rattle.script_draft.specs.Drafts.{HasFailures}
 use Rattle.script_lang.specs.Opened.{opened_texts}
 
 -- the three texts that are bound to an exception are put in, one after the other

@@ -5,14 +5,14 @@ use Rattle.eio_value.specs.declared.value.TextId.{TextId}
 use Rattle.eio_value.specs.declared.plain.Plain.TheVariants.{Failure}
 use Rattle.script_model.specs.Opening.{with_bound, textless, opening_texts}
 use Rattle.script_model.specs.Scripts.{Script}
-use Rattle.script_lang.specs.Drafts.{Drafted}
-use Rattle.script_lang.specs.Flat.{number_of, flat_bodies}
+use Rattle.script_draft.specs.Drafts.{Drafted}
+use Rattle.script_forms.specs.Flat.{number_of, flat_bodies}
 use Rattle.script_lang.specs.Unflat.{bodies_of}
 use Rattle.script_lang.specs.ScriptCode.{bodies_of-flat}
 use Rattle.script_lang.specs.ScriptInside.{view_of, IsWhole, IsScriptOf}
 use Rattle.script_lang.specs.declared.script.Parts.{Parts}
 use Rattle.script_lang.specs.declared.script.Script.TheInside.{Inside}
-use Rattle.script_lang.specs.declared.draft.Finished.{Finished}
+use Rattle.script_draft.specs.declared.draft.Finished.{Finished}
 use Rattle.script_lang.proofs.OwnTexts.{own_texts}
 
 abbrev pub inside_of : Parts → Finished → (table : List (List ℕ)) → (own : ℕ) → Inside

@@ -10,7 +10,7 @@ use Rattle.script_model.specs.Scripts.{Script, items_behind, Parts, parts_of, bo
 use Rattle.script_model.specs.Statements.{statements}
 use Rattle.script_model.specs.Syntax.{Block, Begins}
 use Rattle.script_model.specs.Trees.{Tree, Number, Trees, Nil, And, place_of}
-use Rattle.script_lang.specs.Flat.{flat_statements, flat_block, flat_bodies}
+use Rattle.script_forms.specs.Flat.{flat_statements, flat_block, flat_bodies}
 use Rattle.script_lang.specs.Numbered.{IsNumberedBlock, AreNumberedBodies, HasNumbers}
 use Rattle.script_lang.proofs.NodeCounts.{From, given, refused, going_on, past, test_keeps, two_rows, same_Ok, err-ok, both_gave}
 use Rattle.script_lang.proofs.BlockNumbers.{block_counts, with_block, statements_count}

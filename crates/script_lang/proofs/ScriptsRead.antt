@@ -13,21 +13,20 @@ use Rattle.script_model.specs.Declarations.{Declared}
 use Rattle.script_model.specs.Scripts.{script_of, root_of, script_of_parts, is_one, Parts, with_first, items_behind, parts_of, domains_in, body, body_scope, domains, first_place}
 use Rattle.script_model.specs.Limits.{most_bodies}
 use Rattle.script_tree.specs.Pieces.{Piece, Words, Numbers, Texts, Opens as Opened, Closes, first, others, first_tree}
-use Rattle.script_lang.specs.Ahead.{ahead, around, rest_of, tree_ahead, has_tree, behind, form_at, number_at, IsPast, IsInside, IsInForm, IsBehind}
-use Rattle.script_lang.specs.Blocks.{HasBlock, Blocked}
-use Rattle.script_lang.specs.Bodies.{IsWithin}
-use Rattle.script_lang.specs.Drafts.{Drafted, made_of}
-use Rattle.script_lang.specs.Flat.{flat_statements, flat_bodies, number_of}
-use Rattle.script_lang.specs.Readings.{Fails, Grows, HasGrown}
+use Rattle.script_draft.specs.Ahead.{ahead, around, rest_of, tree_ahead, has_tree, behind, form_at, number_at, IsPast, IsInside, IsInForm, IsBehind, IsWithin}
+use Rattle.script_statements.specs.Blocks.{HasBlock, Blocked}
+use Rattle.script_draft.specs.Drafts.{Drafted, made_of}
+use Rattle.script_forms.specs.Flat.{flat_statements, flat_bodies, number_of}
+use Rattle.script_draft.specs.Readings.{Fails, Grows, HasGrown}
 use Rattle.script_lang.specs.ScriptsRead.{domain_by, domain_of, one_if, bodies_read, HasBodies, HasParts}
-use Rattle.script_lang.specs.DeclarationsRead.{from_main, is_main, IsAtMain}
-use Rattle.script_lang.specs.Taken.{Opens, Enters}
-use Rattle.script_lang.specs.declared.cursor.Word.{Word as WordRead}
-use Rattle.script_lang.proofs.Cursors.{leaf_passed, number_passed}
-use Rattle.script_lang.proofs.StatementsRead.{step_ok}
-use Rattle.script_lang.specs.declared.fault.ScriptFault.{ScriptFault}
-use Rattle.script_lang.proofs.Steps.{fails_first}
-use Rattle.script_lang.proofs.Counts.{next_here, next_passed, has_none}
+use Rattle.script_declarations.specs.DeclarationsRead.{from_main, is_main, IsAtMain}
+use Rattle.script_draft.specs.Taken.{Opens, Enters}
+use Rattle.script_draft.specs.declared.cursor.Word.{Word as WordRead}
+use Rattle.script_draft.proofs.Cursors.{leaf_passed, number_passed}
+use Rattle.script_statements.proofs.StatementsRead.{step_ok}
+use Rattle.script_forms.specs.declared.fault.ScriptFault.{ScriptFault}
+use Rattle.script_draft.proofs.Steps.{fails_first}
+use Rattle.script_draft.proofs.Counts.{next_here, next_passed, has_none}
 
 -- ## Trees that are passed
 

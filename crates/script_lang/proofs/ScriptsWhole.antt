@@ -10,15 +10,15 @@ use Rattle.script_model.specs.Declarations.{declarations_behind, nothing_declare
 use Rattle.script_model.specs.Scripts.{Parts, script_of, script_by, bodies_of, items_behind, parts_of, body, domains}
 use Rattle.script_tree.specs.Pieces.{Piece, pieces, first_tree, tree_of}
 use Rattle.script_tree.specs.TreeCode.{tree_of-pieces}
-use Rattle.script_lang.specs.Ahead.{ahead, tree_ahead, has_tree}
-use Rattle.script_lang.specs.DeclarationsRead.{before_main, from_main, is_main, IsAtMain}
-use Rattle.script_lang.specs.Drafts.{Drafted, made_of, nothing_drafted}
-use Rattle.script_lang.specs.Flat.{flat_bodies}
-use Rattle.script_lang.specs.Readings.{Fails}
+use Rattle.script_draft.specs.Ahead.{ahead, tree_ahead, has_tree}
+use Rattle.script_declarations.specs.DeclarationsRead.{before_main, from_main, is_main, IsAtMain}
+use Rattle.script_draft.specs.Drafts.{Drafted, made_of, nothing_drafted}
+use Rattle.script_forms.specs.Flat.{flat_bodies}
+use Rattle.script_draft.specs.Readings.{Fails}
 use Rattle.script_lang.specs.ScriptsRead.{bodies_read, HasBodies, HasRoot}
-use Rattle.script_lang.specs.declared.fault.ScriptFault.{ScriptFault}
-use Rattle.script_lang.proofs.DeclarationsRead.{parts_before, parts_from}
-use Rattle.script_lang.proofs.Steps.{fails_first}
+use Rattle.script_forms.specs.declared.fault.ScriptFault.{ScriptFault}
+use Rattle.script_declarations.proofs.DeclarationsRead.{parts_before, parts_from}
+use Rattle.script_draft.proofs.Steps.{fails_first}
 
 -- ## The tree
 

@@ -3,7 +3,7 @@ use Rattle.std.specs.Prelude.{◌≡◌, ℕ, ◌+◌, ◌≤◌, List, [], ◌�
 use Rattle.script_model.specs.Limits.{most_bodies}
 use Rattle.script_model.specs.Scripts.{Script}
 use Rattle.script_model.specs.Syntax.{Statement, LetForm, If, Try, Repeat, Loop, Sub, Protect, Switch, Fork, OnRelease, Branches, UseRw, UsePool, Submit, BufRead, BufWrite, OpenDir, Block, Begins, Statements, Done, Then, Blocks, NoBlocks, AndBlock}
-use Rattle.script_lang.specs.Flat.{flat_expression, flat_statement, flat_block}
+use Rattle.script_forms.specs.Flat.{flat_expression, flat_statement, flat_block}
 
 unfoldable mutual
   -- in a statement whose first node has this number

@@ -10,13 +10,13 @@ use Rattle.script_model.specs.Reads.{Formed}
 use Rattle.script_model.specs.Scripts.{Script}
 use Rattle.script_model.specs.Syntax as syntax
 use Rattle.script_model.specs.Syntax.{Expression, Expressions, Statement, Statements, Block, Begins, Blocks, NoBlocks, AndBlock}
-use Rattle.script_lang.specs.Calls.{operator_of, operator_in, object_call_of, object_call_in, object_call_with_of, object_call_with_in, reader_call_of, reader_call_in, path_call_of, path_call_in, group_of, group_in, forking_of, forking_in, directory_of, directory_in}
-use Rattle.script_lang.specs.Declaring.{declaration_of, declaration_in}
-use Rattle.script_lang.specs.Flat.{flat_expression, flat_expressions, expression_count, headed, number_of, numbers_of, flat_statement, flat_statements, flat_blocks, flat_bodies}
+use Rattle.script_forms.specs.Calls.{operator_of, operator_in, object_call_of, object_call_in, object_call_with_of, object_call_with_in, reader_call_of, reader_call_in, path_call_of, path_call_in, group_of, group_in, forking_of, forking_in, directory_of, directory_in}
+use Rattle.script_forms.specs.Declaring.{declaration_of, declaration_in}
+use Rattle.script_forms.specs.Flat.{flat_expression, flat_expressions, expression_count, headed, number_of, numbers_of, flat_statement, flat_statements, flat_blocks, flat_bodies}
 use Rattle.script_lang.specs.Unflat.{Behind, operands, past_operands, branches, past_branches, with_expression, with_rest, states, onto, unflat, bodies_by, bodies_of}
-use Rattle.script_lang.specs.declared.declaration.Decl.{Decl}
-use Rattle.script_lang.specs.declared.node.Node.{Node}
-use Rattle.script_lang.specs.declared.node.Node.TheVariants as node
+use Rattle.script_forms.specs.declared.declaration.Decl.{Decl}
+use Rattle.script_forms.specs.declared.node.Node.{Node}
+use Rattle.script_forms.specs.declared.node.Node.TheVariants as node
 
 -- ## The small enums and back
 

@@ -2,9 +2,9 @@
 use Rattle.std.specs.Prelude.{◌≡◌, ◌<◌, ◌^◌, length, map, take, Ok}
 use Rattle.script_model.specs.Scripts.{Script, script_of}
 use Rattle.script_model.specs.Opening.{opening_texts}
-use Rattle.script_lang.specs.Declaring.{declaration_of}
-use Rattle.script_lang.specs.Drafts.{Drafted}
-use Rattle.script_lang.specs.Flat.{number_of, flat_bodies}
+use Rattle.script_forms.specs.Declaring.{declaration_of}
+use Rattle.script_draft.specs.Drafts.{Drafted}
+use Rattle.script_forms.specs.Flat.{number_of, flat_bodies}
 use Rattle.script_lang.specs.Unflat.{bodies_of}
 use Rattle.script_lang.specs.declared.script.Parts.{Parts}
 use Rattle.script_lang.specs.declared.script.Script.TheInside.{Inside}

@@ -9,11 +9,11 @@ use Rattle.script_model.specs.Scopes.{Scope}
 use Rattle.script_model.specs.Statements.{statements, block_of}
 use Rattle.script_model.specs.Declarations.{Declared}
 use Rattle.script_model.specs.Scripts.{Script, Parts, items_behind, parts_of, bodies_of, body, domains, first_place, script_of_parts}
-use Rattle.script_lang.specs.Drafts.{Drafted, made_of}
-use Rattle.script_lang.specs.Flat.{flat_bodies, number_of}
-use Rattle.script_lang.specs.Readings.{Fails}
-use Rattle.script_lang.specs.declared.fault.ScriptFault.{ScriptFault}
-use Rattle.script_lang.specs.declared.fault.ScriptFault.TheVariants.{NoMemory}
+use Rattle.script_draft.specs.Drafts.{Drafted, made_of}
+use Rattle.script_forms.specs.Flat.{flat_bodies, number_of}
+use Rattle.script_draft.specs.Readings.{Fails}
+use Rattle.script_forms.specs.declared.fault.ScriptFault.{ScriptFault}
+use Rattle.script_forms.specs.declared.fault.ScriptFault.TheVariants.{NoMemory}
 use Rattle.script_lang.specs.declared.reader.Bodies.{Bodies}
 
 -- the tree is this script, or refused so; where memory ran out, nothing is said

@@ -7,8 +7,8 @@ use Rattle.eio_value.specs.declared.value.TextId.{TextId}
 use Rattle.script_model.specs.Declarations.{Declaration, Flow}
 use Rattle.script_model.specs.Scripts.{Script}
 use Rattle.script_model.specs.Syntax.{Expression, TextValue, Operation, Expressions, NoExpressions, AndExpression, Statement, Let, LetForm, If, Give, Raise, Try, Repeat, Loop, Trace, Sub, Protect, Cancel, Switch, Fork, Fail, OnRelease, Branches, OnObjectWith, UseRw, UsePool, Submit, Sleep, BufRead, TakeBytes, BufWrite, Put, OpenDir, OnPath, Save, Block, Begins, Statements, Done, Then, Blocks, NoBlocks, AndBlock}
-use Rattle.script_lang.specs.declared.node.Node.{Node}
-use Rattle.script_lang.specs.declared.node.Node.TheVariants as node
+use Rattle.script_forms.specs.declared.node.Node.{Node}
+use Rattle.script_forms.specs.declared.node.Node.TheVariants as node
 
 -- it has a number below that of all texts
 abbrev pub IsAmong : (texts : ℕ) → TextId → Type 0

@@ -2,9 +2,9 @@
 use Rattle.std.specs.Prelude.{ℕ, zero, suc, List, [], ◌∷◌}
 use Rattle.script_model.specs.Syntax as syntax
 use Rattle.script_model.specs.Syntax.{Expression, Expressions, NoExpressions, AndExpression, Statement, Statements, Done, Then, Block, Begins, Blocks, NoBlocks, AndBlock}
-use Rattle.script_lang.specs.Calls.{operator_of, object_call_of, object_call_with_of, reader_call_of, path_call_of, group_of, forking_of, directory_of}
-use Rattle.script_lang.specs.declared.node.Node.{Node}
-use Rattle.script_lang.specs.declared.node.Node.TheVariants as node
+use Rattle.script_forms.specs.Calls.{operator_of, object_call_of, object_call_with_of, reader_call_of, path_call_of, group_of, forking_of, directory_of}
+use Rattle.script_forms.specs.declared.node.Node.{Node}
+use Rattle.script_forms.specs.declared.node.Node.TheVariants as node
 
 -- the expressions, and the rests of blocks, that begin behind a node and that no node there has taken
 pub record Behind : Type 0 where

@@ -11,12 +11,12 @@ ghost use Rattle.script_model.specs.Limits.{most_load};
 ghost use Rattle.script_model.specs.Scripts.{script_of};
 ghost use Rattle.script_model.specs.Trees.{Text};
 ghost use Rattle.script_tree.specs.Pieces.{pieces, row_pieces};
-ghost use Rattle.script_lang.specs.declared.fault.ScriptFault.TheVariants as variant;
+ghost use Rattle.script_forms.specs.declared.fault.ScriptFault.TheVariants as variant;
 
-use crate::fault::ScriptFault;
 use crate::reader::read_script;
 use crate::script::Script;
 use eio_value::NoMemory;
+use script_forms::ScriptFault;
 use script_tree::{Tree, TreeBuilder};
 use std::alloc::Global;
 

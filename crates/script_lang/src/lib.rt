@@ -1,39 +1,20 @@
 //! The script language: its scripts, and their reading from a tree.
+//!
+//! Invariant: a script's tree is read as the script, and its nodes are those of its bodies, one body behind the other. The theorems
+//! are the clauses of [`read_script`], of the calls of [`Script`], and of [`generate`].
 #![tactic(auto)]
 
-mod bodies;
-mod calls;
-mod captures;
-mod cursor;
-mod declaration;
-mod declarations;
-mod draft;
-mod entries;
-mod expressions;
-mod fault;
 mod features;
-mod flow_steps;
 mod generator;
-mod heads;
-mod kind;
-mod leaves;
-mod limited;
-mod mock_forms;
-mod node;
 mod opening;
 mod reader;
-mod scope;
 mod script;
-mod silent_forms;
-mod statements;
 mod table;
 
-pub use declaration::{Decl, FlowSteps};
-pub use fault::ScriptFault;
 pub use generator::generate;
-pub use node::{
-    Directory, Forking, Group, Node, Numbers, ObjectCall, ObjectCallWith, Operator, PathCall,
-    ReaderCall,
-};
 pub use reader::read_script;
 pub use script::Script;
+pub use script_forms::{
+    Decl, Directory, FlowSteps, Forking, Group, Node, Numbers, ObjectCall, ObjectCallWith,
+    Operator, PathCall, ReaderCall, ScriptFault,
+};

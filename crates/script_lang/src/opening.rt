@@ -6,7 +6,7 @@
 ghost use Rattle.std.specs.Prelude.{◌≡◌, ◌++◌, fold, map, IfOk, OnOk, codes};
 ghost use Rattle.eio_value.specs.Exceptions.{HasTextsOfPlain, plain_text};
 ghost use Rattle.script_model.specs.Opening.{textless, with_bound, with_text};
-ghost use Rattle.script_lang.specs.Drafts.{HasFailures};
+ghost use Rattle.script_draft.specs.Drafts.{HasFailures};
 ghost use Rattle.script_lang.specs.Opened.{opened_texts};
 ghost use Rattle.eio_value.specs.declared.plain.Plain.TheVariants.{Failure};
 

@@ -1,25 +1,22 @@
 //! Reading of scripts: `(eio 1 DECLARATION* (main STATEMENT*) (domain STATEMENT*)*)`. The theorem is the clauses of [`read_script`].
-#![tactic(auto, using(crate::proofs::Counts::some_ahead, crate::proofs::Counts::none_ahead, crate::proofs::Counts::count_past))]
+#![tactic(auto, using(script_draft::proofs::Counts::some_ahead, script_draft::proofs::Counts::none_ahead, script_draft::proofs::Counts::count_past))]
 
 ghost use Rattle.std.specs.Prelude.{◌≡◌, ◌+◌, ◌<◌, ◌≤◌, IfOk, IfErr, codes, is_some, length, true, false};
 ghost use Rattle.script_model.specs.Declarations as declared;
 ghost use Rattle.script_model.specs.Scripts.{script_of, items_behind, body_scope, domains_in, first_place, is_one};
 ghost use Rattle.script_model.specs.Trees.{Trees};
-ghost use Rattle.script_lang.specs.Ahead.{ahead, has_tree, tree_ahead, IsPast};
-ghost use Rattle.script_lang.specs.Blocks.{Blocked};
-ghost use Rattle.script_lang.specs.DeclarationsRead.{IsAtMain, is_main};
-ghost use Rattle.script_lang.specs.declared.fault.ScriptFault.TheVariants.{NoMemory};
-ghost use Rattle.script_lang.specs.Readings.{Fails};
+ghost use Rattle.script_draft.specs.Ahead.{ahead, has_tree, tree_ahead, IsPast};
+ghost use Rattle.script_statements.specs.Blocks.{Blocked};
+ghost use Rattle.script_declarations.specs.DeclarationsRead.{IsAtMain, is_main};
+ghost use Rattle.script_forms.specs.declared.fault.ScriptFault.TheVariants.{NoMemory};
+ghost use Rattle.script_draft.specs.Readings.{Fails};
 ghost use Rattle.script_lang.specs.ScriptsRead.{domain_of, one_if, Bodied, Roots, Names};
 
-use crate::cursor::Cursor;
-use crate::declarations::{Declared, declarations as read_declarations, is_at_end};
-use crate::draft::Draft;
-use crate::fault::ScriptFault;
-use crate::heads::is_word;
-use crate::scope::Scope;
 use crate::script::{Parts, Script};
-use crate::statements::statements;
+use script_declarations::declarations::{Declared, declarations as read_declarations, is_at_end};
+use script_draft::{Cursor, Draft, Scope};
+use script_forms::{ScriptFault, is_word};
+use script_statements::statements::statements;
 use script_tree::Tree;
 use std::alloc::Global;
 

@@ -5,12 +5,11 @@
 
 ghost use Rattle.std.specs.Prelude.{◌≡◌};
 
-use crate::declaration::Decl;
-use crate::draft::{Draft, Formed};
-use crate::node::Node;
 use crate::opening::opening;
 use crate::table::copy_of;
 use eio_value::{NoMemory, TextId, Texts};
+use script_draft::{Draft, Formed};
+use script_forms::{Decl, Node};
 use script_tree::Tree;
 use std::alloc::Global;
 use std::marker::Model;
@@ -66,8 +65,8 @@ impl Script {
     ghost use Rattle.script_model.specs.Opening.{opening_texts};
     ghost use Rattle.script_model.specs.Scripts.{Script as Read, script_of};
     ghost use Rattle.script_laws.specs.Soundness.{IsSound};
-    ghost use Rattle.script_lang.specs.Declaring.{declaration_of};
-    ghost use Rattle.script_lang.specs.Flat.{nodes_of};
+    ghost use Rattle.script_forms.specs.Declaring.{declaration_of};
+    ghost use Rattle.script_forms.specs.Flat.{nodes_of};
     ghost use Rattle.script_lang.specs.Numbered.{HasNumbers};
     ghost use Rattle.script_lang.specs.ScriptInside.{IsRead, IsScriptOf};
     ghost use Rattle.script_lang.specs.Standing.{block_at, GoesOn, Stands};

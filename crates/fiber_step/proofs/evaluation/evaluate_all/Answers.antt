@@ -1,5 +1,5 @@
 use Rattle.std.proofs.Common.{rules, ◌≡◌, ◌<◌, ◌-◌, Err, arith, ap, ◌∙◌, sym, subst}
-use Rattle.script_lang.specs.Flat.{nodes_of}
+use Rattle.script_forms.specs.Flat.{nodes_of}
 use Rattle.fiber_step.specs.Evaluating.{operand_values}
 use Rattle.fiber_step.proofs.Traced.{IsTraced, one_had, one_raises}
 use Rattle.fiber_step.proofs.evaluation.evaluate_all.Goals as goal

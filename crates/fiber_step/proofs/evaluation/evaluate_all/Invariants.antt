@@ -1,4 +1,4 @@
-use Rattle.script_lang.specs.Flat.{nodes_of}
+use Rattle.script_forms.specs.Flat.{nodes_of}
 use Rattle.fiber_step.proofs.Traced.{IsTraced}
 use Rattle.fiber_step.proofs.evaluation.evaluate_all.Given as goal
 

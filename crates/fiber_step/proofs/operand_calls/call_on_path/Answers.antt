@@ -1,5 +1,5 @@
 use Rattle.std.proofs.Common.{rules, ◌≡◌, Err, length, sym, ap, ◌∙◌, subst}
-use Rattle.script_lang.specs.Flat.{nodes_of}
+use Rattle.script_forms.specs.Flat.{nodes_of}
 use Rattle.script_lang.specs.Standing.{expression_at, behind_expression}
 use Rattle.step_model.specs.Evaluation.{text_of}
 use Rattle.fiber_step.specs.Having.{HasExpression}

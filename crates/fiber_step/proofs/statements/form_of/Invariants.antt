@@ -1,5 +1,5 @@
 use Rattle.std.proofs.Common.{◌-◌, length}
-use Rattle.script_lang.specs.Flat.{nodes_of}
+use Rattle.script_forms.specs.Flat.{nodes_of}
 use Rattle.fiber_step.specs.Stating.{IsBehindLets}
 use Rattle.fiber_step.proofs.statements.form_of.Given as goal
 

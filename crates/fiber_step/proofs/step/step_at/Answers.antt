@@ -1,5 +1,5 @@
 use Rattle.std.proofs.Common.{length}
-use Rattle.script_lang.specs.Flat.{nodes_of}
+use Rattle.script_forms.specs.Flat.{nodes_of}
 use Rattle.fiber_step.specs.Calling.{is_bare, has_own_block, hands_on, is_group, has_marks, has_operands, is_of_path}
 use Rattle.fiber_step.proofs.Parts.{has_parts}
 use Rattle.fiber_step.proofs.StepKinds.{other_kind, silent_left}

@@ -2,7 +2,7 @@ use Rattle.std.proofs.Common.{◌≡◌, map, take}
 use Rattle.std.specs.Prelude.{fold}
 use Rattle.eio_value.specs.declared.plain.Plain.TheVariants.{Failure}
 use Rattle.script_model.specs.Opening.{with_bound}
-use Rattle.script_lang.specs.Drafts.{HasFailures}
+use Rattle.script_draft.specs.Drafts.{HasFailures}
 use Rattle.script_lang.proofs.opening.bind_failures.Given as goal
 
 abbrev pub invariant-loop-text : goal.invariant-loop-text

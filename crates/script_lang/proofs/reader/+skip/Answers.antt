@@ -1,4 +1,4 @@
-use Rattle.script_lang.proofs.Within.{within_here, within_past}
+use Rattle.script_draft.proofs.Within.{within_here, within_past}
 use Rattle.script_lang.proofs.ScriptsRead.{leaf_skipped}
 use Rattle.script_lang.proofs.reader.+skip.Goals as goal
 

@@ -1,5 +1,5 @@
 use Rattle.std.proofs.Common.{length}
-use Rattle.script_lang.specs.Bodies.{IsWithin}
+use Rattle.script_draft.specs.Ahead.{IsWithin}
 use Rattle.script_lang.proofs.reader.+skip.Given as goal
 
 abbrev pub decreases-skip : goal.decreases-skip

@@ -1,6 +1,6 @@
 use Rattle.std.proofs.Common.{◌≡◌, ◌+◌, length}
 use Rattle.script_model.specs.Scripts.{domains_in}
-use Rattle.script_lang.specs.Ahead.{ahead}
+use Rattle.script_draft.specs.Ahead.{ahead}
 use Rattle.script_lang.proofs.reader.count_domains.Given as goal
 
 abbrev pub invariant-loop-cursor : goal.invariant-loop-cursor

@@ -1,7 +1,7 @@
 use Rattle.std.proofs.Common.{refl, sym, ◌∙◌}
-use Rattle.script_lang.specs.Ahead.{ahead}
-use Rattle.script_lang.proofs.DeclarationsRead.{goes_on, from_passed, is_end_from}
-use Rattle.script_lang.proofs.Within.{within_here, within_past}
+use Rattle.script_draft.specs.Ahead.{ahead}
+use Rattle.script_declarations.proofs.DeclarationsRead.{goes_on, from_passed, is_end_from}
+use Rattle.script_draft.proofs.Within.{within_here, within_past}
 use Rattle.script_lang.proofs.reader.find_main.Goals as goal
 
 pub loop-cursor-init : goal.loop-cursor-init

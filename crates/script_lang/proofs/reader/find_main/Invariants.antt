@@ -1,7 +1,6 @@
 use Rattle.std.proofs.Common.{◌≡◌, length}
-use Rattle.script_lang.specs.Ahead.{ahead}
-use Rattle.script_lang.specs.Bodies.{IsWithin}
-use Rattle.script_lang.specs.DeclarationsRead.{from_main}
+use Rattle.script_draft.specs.Ahead.{ahead, IsWithin}
+use Rattle.script_declarations.specs.DeclarationsRead.{from_main}
 use Rattle.script_lang.proofs.reader.find_main.Given as goal
 
 abbrev pub invariant-loop-cursor : goal.invariant-loop-cursor

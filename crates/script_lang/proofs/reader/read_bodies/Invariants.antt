@@ -2,7 +2,7 @@ use Rattle.std.proofs.Common.{◌≡◌, length, Some}
 use Rattle.script_model.specs.Declarations.{Declared}
 use Rattle.script_model.specs.Scripts.{parts_of, body_scope, first_place}
 use Rattle.script_model.specs.Trees.{Trees, Nil}
-use Rattle.script_lang.specs.Ahead.{ahead}
+use Rattle.script_draft.specs.Ahead.{ahead}
 use Rattle.script_lang.proofs.ScriptsRead.{IsAmidBodies}
 use Rattle.script_lang.proofs.reader.read_bodies.Given as goal
 

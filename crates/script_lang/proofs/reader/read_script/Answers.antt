@@ -1,8 +1,8 @@
 use Rattle.std.proofs.Common.{◌≡◌, Ok, refl, ap, sym, ◌∙◌}
 use Rattle.std.proofs.lemmas.Result.{err_from_is_err_and}
 use Rattle.script_model.specs.Scripts.{body_scope, script_of, script_by}
-use Rattle.script_lang.specs.DeclarationsRead.{declared_of}
-use Rattle.script_lang.specs.Drafts.{made_of}
+use Rattle.script_declarations.specs.DeclarationsRead.{declared_of}
+use Rattle.script_draft.specs.Drafts.{made_of}
 use Rattle.script_lang.proofs.ScriptsWhole.{root_here, tree_here, parts_here, main_here, declarations_fail, bodies_stop, script_read, nodes_read}
 use Rattle.script_lang.proofs.reader.read_script.Goals as goal
 

@@ -2,7 +2,7 @@ use Rattle.std.proofs.Common.{◌∙◌, sym, subst}
 use Rattle.machine_model.specs.Domain.{ForCancel, Parked, stands}
 use Rattle.machine_model.specs.Moves.{own_call}
 use Rattle.machine_model.specs.Steps.{goes_off, waits}
-use Rattle.script_lang.specs.Flat.{nodes_of}
+use Rattle.script_forms.specs.Flat.{nodes_of}
 use Rattle.trace_out.specs.declared.line.Did.TheVariants as did
 use Rattle.trace_out.specs.declared.line.Said2.TheVariants as said
 use Rattle.domain_core.specs.Conditions.{RunsInLive}

@@ -3,8 +3,8 @@ use Rattle.std.proofs.lemmas.Result.{on_ok_weaker}
 use Rattle.eio_value.specs.declared.plain.Misuse.TheVariants.{ContextFinished}
 use Rattle.eio_value.specs.declared.plain.Plain.TheVariants.{Failure, Invalid}
 use Rattle.row_model.specs.Contexts.{is_live}
-use Rattle.script_lang.specs.Flat.{nodes_of}
-use Rattle.script_lang.specs.declared.node.Node.{Node}
+use Rattle.script_forms.specs.Flat.{nodes_of}
+use Rattle.script_forms.specs.declared.node.Node.{Node}
 use Rattle.trace_out.specs.declared.line.Did.TheVariants as did
 use Rattle.machine_model.specs.Domain.{DomainState}
 use Rattle.machine_model.specs.Moves.{own_call}

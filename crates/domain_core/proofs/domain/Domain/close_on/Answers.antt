@@ -4,7 +4,7 @@ use Rattle.std.proofs.lemmas.Result.{on_ok_weaker}
 use Rattle.eio_value.specs.declared.plain.Plain.TheVariants.{Exit}
 use Rattle.eio_value.specs.declared.raised.Outcome.TheVariants as outcome
 use Rattle.trace_out.specs.declared.line.Did.TheVariants as did
-use Rattle.script_lang.specs.Flat.{nodes_of}
+use Rattle.script_forms.specs.Flat.{nodes_of}
 use Rattle.step_model.specs.Asks as asks
 use Rattle.row_model.specs.Switches as switches
 use Rattle.row_model.specs.Switches.{switch_at}

@@ -2,7 +2,7 @@ use Rattle.std.proofs.Common.{◌≡◌, ◌∙◌, ap, sym, subst}
 use Rattle.std.proofs.lemmas.Option.{same_Some}
 use Rattle.trace_out.specs.declared.line.Did.TheVariants as did
 use Rattle.trace_out.specs.declared.line.Said2.{Said2}
-use Rattle.script_lang.specs.Flat.{nodes_of}
+use Rattle.script_forms.specs.Flat.{nodes_of}
 use Rattle.step_model.specs.Asks as asks
 use Rattle.machine_model.specs.EndMoves.{ends}
 use Rattle.machine_model.specs.Moves.{own_call}

@@ -1,4 +1,4 @@
-use Rattle.script_lang.specs.Flat.{nodes_of}
+use Rattle.script_forms.specs.Flat.{nodes_of}
 use Rattle.domain_core.proofs.Awake.{awake_inside}
 use Rattle.domain_core.proofs.Entering.{entered_awake, enters_becomes}
 use Rattle.domain_core.proofs.domain.Domain.enter.Goals as goal

@@ -5,8 +5,8 @@ use Rattle.eio_value.specs.declared.plain.Misuse.TheVariants.{SwitchFinished}
 use Rattle.eio_value.specs.declared.plain.Plain.TheVariants.{Failure, Invalid}
 use Rattle.eio_value.specs.declared.raised.Raised.TheVariants as raised
 use Rattle.row_model.specs.Switches.{switch_at}
-use Rattle.script_lang.specs.Flat.{nodes_of}
-use Rattle.script_lang.specs.declared.node.Node.{Node}
+use Rattle.script_forms.specs.Flat.{nodes_of}
+use Rattle.script_forms.specs.declared.node.Node.{Node}
 use Rattle.trace_out.specs.declared.line.Did.TheVariants as did
 use Rattle.machine_model.specs.Domain.{DomainState}
 use Rattle.machine_model.specs.Moves.{own_call}

@@ -1,6 +1,6 @@
 use Rattle.machine_model.specs.Domain.{LooksUp, to_back}
 use Rattle.machine_model.specs.Moves.{own_call}
-use Rattle.script_lang.specs.Flat.{nodes_of}
+use Rattle.script_forms.specs.Flat.{nodes_of}
 use Rattle.trace_out.specs.declared.line.Did.TheVariants as did
 use Rattle.trace_out.specs.declared.line.Said2.TheVariants as said
 use Rattle.domain_core.proofs.Composing.{makes_told}

@@ -2,7 +2,7 @@ use Rattle.std.proofs.Common.{◌∙◌, ◌<◌, ap, List, length, ℕ, sym, su
 use Rattle.std.proofs.lemmas.Result.{on_ok_weaker}
 use Rattle.eio_value.specs.declared.raised.Outcome.TheVariants as outcome
 use Rattle.trace_out.specs.declared.line.Did.TheVariants as did
-use Rattle.script_lang.specs.Flat.{nodes_of}
+use Rattle.script_forms.specs.Flat.{nodes_of}
 use Rattle.row_model.specs.Groups as groups
 use Rattle.row_model.specs.Groups.{group_at}
 use Rattle.machine_model.specs.ContextMoves.{leaves}

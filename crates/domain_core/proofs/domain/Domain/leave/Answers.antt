@@ -5,8 +5,8 @@ use Rattle.eio_value.specs.declared.plain.Plain.TheVariants.{Invalid}
 use Rattle.eio_value.specs.declared.raised.Outcome.TheVariants as outcome
 use Rattle.eio_value.specs.declared.value.Value.{Value}
 use Rattle.eio_value.specs.declared.value.Value.TheVariants as value
-use Rattle.script_lang.specs.Flat.{nodes_of}
-use Rattle.script_lang.specs.declared.node.Node.{Node}
+use Rattle.script_forms.specs.Flat.{nodes_of}
+use Rattle.script_forms.specs.declared.node.Node.{Node}
 use Rattle.trace_out.specs.declared.line.Did.TheVariants as did
 use Rattle.trace_out.specs.declared.line.Said2.TheVariants as said
 use Rattle.machine_model.specs.ContextMoves.{leaves, left_with}

@@ -1,7 +1,7 @@
 use Rattle.std.proofs.Common.{◌∙◌, ap, sym, subst}
 use Rattle.std.specs.Prelude.{IsSome}
 use Rattle.std.proofs.lemmas.Result.{IfOk-weaker}
-use Rattle.script_lang.specs.Flat.{nodes_of}
+use Rattle.script_forms.specs.Flat.{nodes_of}
 use Rattle.domain_core.specs.Keeping.{KeptDomain, kept_at}
 use Rattle.domain_core.specs.Keyed.{standing_of}
 use Rattle.domain_core.specs.Moving.{ComesTo}

@@ -2,8 +2,8 @@ use Rattle.std.proofs.Common.{◌≡◌, ℕ, true, false, List, ◌∙◌, sym,
 use Rattle.fiber_step.specs.declared.ask.Ask.TheVariants as kept_ask
 use Rattle.fiber_step.specs.Standing.{ask_of}
 use Rattle.row_model.specs.Switches.{switch_at}
-use Rattle.script_lang.specs.Flat.{nodes_of}
-use Rattle.script_lang.specs.declared.node.Node.{Node}
+use Rattle.script_forms.specs.Flat.{nodes_of}
+use Rattle.script_forms.specs.declared.node.Node.{Node}
 use Rattle.step_model.specs.Asks.{Ask}
 use Rattle.trace_out.specs.declared.line.Did.TheVariants as did
 use Rattle.trace_out.specs.declared.line.Said2.TheVariants as said

@@ -5,9 +5,9 @@ use Rattle.trace_out.specs.declared.line.Did.TheVariants as did
 use Rattle.trace_out.specs.declared.line.Said2.TheVariants as said
 use Rattle.script_model.specs.Scripts.{Script}
 use Rattle.script_laws.specs.Soundness.{IsSound}
-use Rattle.script_lang.specs.Flat.{nodes_of}
+use Rattle.script_forms.specs.Flat.{nodes_of}
 use Rattle.script_lang.specs.Numbered.{HasNumbers}
-use Rattle.script_lang.specs.declared.node.Node.{Node}
+use Rattle.script_forms.specs.declared.node.Node.{Node}
 use Rattle.step_model.specs.Numbered.{block_numbered}
 use Rattle.step_model.specs.Replies.{handled}
 use Rattle.step_model.specs.Asks as asks

@@ -3,7 +3,7 @@ use Rattle.std.proofs.lemmas.Option.{same_Some}
 use Rattle.row_model.specs.Contexts.{root}
 use Rattle.row_model.specs.ContextCalls.{Contexts, Root, called}
 use Rattle.row_model.specs.ReadyList.{push_back}
-use Rattle.script_lang.specs.Flat.{nodes_of}
+use Rattle.script_forms.specs.Flat.{nodes_of}
 use Rattle.script_lang.specs.Standing.{block_at}
 use Rattle.step_model.specs.Replies.{begun}
 use Rattle.machine_model.specs.Domain.{OfBody}

@@ -1,5 +1,5 @@
 use Rattle.machine_model.specs.Moves.{own_call}
-use Rattle.script_lang.specs.Flat.{nodes_of}
+use Rattle.script_forms.specs.Flat.{nodes_of}
 use Rattle.domain_core.proofs.domain.Domain.trace.Goals as goal
 
 pub returns-clause-answers : goal.returns-clause-answers

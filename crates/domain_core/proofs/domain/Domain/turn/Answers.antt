@@ -3,7 +3,7 @@ use Rattle.eio_value.specs.declared.message.Message.{Message}
 use Rattle.machine_model.specs.Domain.{Duty}
 use Rattle.machine_model.specs.Steps.{strike_by}
 use Rattle.row_model.specs.ReadyList.{pop}
-use Rattle.script_lang.specs.Flat.{nodes_of}
+use Rattle.script_forms.specs.Flat.{nodes_of}
 use Rattle.domain_core.specs.Answering.{SameCounts}
 use Rattle.domain_core.specs.Keeping.{KeptDomain}
 use Rattle.domain_core.specs.Mirrors.{Mirrors}

@@ -2,7 +2,7 @@ use Rattle.std.proofs.Common.{◌≡◌, ◌∙◌, ap, sym, subst, refl, List, 
 use Rattle.std.specs.Prelude.{slice_get, IsSome, Result, Ok, Err, OnOk}
 use Rattle.std.specs.Option.{option_map}
 use Rattle.slab.specs.Slab.{with_value}
-use Rattle.script_lang.specs.Flat.{nodes_of}
+use Rattle.script_forms.specs.Flat.{nodes_of}
 use Rattle.domain_core.specs.Keeping.{KeptFiber, kept_at}
 use Rattle.domain_core.specs.Keyed.{HasKey, fiber_of, raised_in, fibers_in}
 use Rattle.domain_core.specs.Stepping.{Enters}

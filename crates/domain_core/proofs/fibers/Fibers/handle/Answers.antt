@@ -3,7 +3,7 @@ use Rattle.std.specs.Prelude.{slice_get, IsSome, Result, Ok, Err, OnOk}
 use Rattle.std.specs.Option.{option_map}
 use Rattle.slab.specs.Slab.{with_value}
 use Rattle.fiber_step.specs.Having.{HasStatements}
-use Rattle.script_lang.specs.declared.node.Node.{Node}
+use Rattle.script_forms.specs.declared.node.Node.{Node}
 use Rattle.domain_core.specs.Keeping.{KeptFiber, kept_at}
 use Rattle.domain_core.specs.Keyed.{HasKey, fiber_of, raised_in, fibers_in}
 use Rattle.domain_core.specs.Stepping.{Handles, IsPlacedAt}

@@ -1,6 +1,6 @@
 use Rattle.std.proofs.Common.{◌≡◌, ◌≤◌, length}
 use Rattle.eio_value.specs.declared.raised.Outcome.TheVariants as outcome
-use Rattle.script_lang.specs.Flat.{nodes_of}
+use Rattle.script_forms.specs.Flat.{nodes_of}
 use Rattle.fiber_step.specs.Standing.{works_of}
 use Rattle.fiber_step.specs.Throwing.{shared_by, IsGrown}
 use Rattle.fiber_step.specs.Weighing.{weight}

@@ -1,5 +1,5 @@
 use Rattle.std.proofs.Common.{sym, subst}
-use Rattle.script_lang.specs.Flat.{nodes_of}
+use Rattle.script_forms.specs.Flat.{nodes_of}
 use Rattle.fiber_step.specs.Settling.{SettlesTo}
 use Rattle.fiber_step.specs.Throwing.{shared_by}
 use Rattle.fiber_step.proofs.Results.{after_ok}

@@ -1,6 +1,6 @@
 use Rattle.std.proofs.Common.{◌∙◌}
 use Rattle.eio_value.specs.declared.raised.Outcome.TheVariants as outcome
-use Rattle.script_lang.specs.Flat.{nodes_of}
+use Rattle.script_forms.specs.Flat.{nodes_of}
 use Rattle.fiber_step.specs.Throwing.{shared_by}
 use Rattle.fiber_step.proofs.Entries.{on_ok}
 use Rattle.fiber_step.proofs.Results.{after_ok}

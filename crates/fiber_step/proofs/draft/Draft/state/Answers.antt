@@ -1,6 +1,6 @@
 use Rattle.std.proofs.Common.{subst, arith, length}
 use Rattle.eio_value.specs.declared.plain.Plain.TheVariants.{Invalid}
-use Rattle.script_lang.specs.Flat.{nodes_of}
+use Rattle.script_forms.specs.Flat.{nodes_of}
 use Rattle.fiber_step.specs.Stepping.{IsStepped, IsRaise}
 use Rattle.fiber_step.proofs.Results.{after_ok}
 use Rattle.fiber_step.proofs.Stated.{form_raises, last_step, raises_within}

@@ -1,5 +1,5 @@
 use Rattle.std.proofs.Common.{◌≡◌, ◌∙◌, sym, ap, subst}
-use Rattle.script_lang.specs.Flat.{nodes_of}
+use Rattle.script_forms.specs.Flat.{nodes_of}
 use Rattle.fiber_step.specs.Drafting.{Drafted, changed}
 use Rattle.fiber_step.specs.Settling.{SettlesTo}
 use Rattle.fiber_step.specs.Throwing.{shared_by}

@@ -1,9 +1,9 @@
 use Rattle.std.proofs.Common.{rules, ◌<◌, ◌≤◌, ◌^◌, List, length, ap, ◌∙◌, subst, arith}
 use Rattle.std.proofs.lemmas.Grind.{common_steps}
 use Rattle.std.proofs.lemmas.List.{length-map}
-use Rattle.script_lang.specs.Flat.{number_of, nodes_of}
+use Rattle.script_forms.specs.Flat.{number_of, nodes_of}
 use Rattle.script_lang.specs.ScriptInside.{view_of}
-use Rattle.script_lang.specs.declared.node.Node.{Node}
+use Rattle.script_forms.specs.declared.node.Node.{Node}
 use Rattle.script_lang.proofs.ScriptNumbers.{script_has_numbers}
 use Rattle.script_lang.proofs.script.Script.bodies.Goals as goal
 

@@ -1,7 +1,7 @@
 use Rattle.std.proofs.Common.{ℕ, ◌<◌, map, sym, ap, ◌∙◌, subst}
 use Rattle.std.proofs.lemmas.List.{length-map}
 use Rattle.script_model.specs.Scripts.{Script}
-use Rattle.script_lang.specs.Flat.{number_of, nodes_of}
+use Rattle.script_forms.specs.Flat.{number_of, nodes_of}
 use Rattle.script_lang.specs.Standing.{statements_at}
 use Rattle.script_lang.specs.Numbered.{HasNumbers}
 use Rattle.script_lang.specs.ScriptInside.{view_of}

@@ -1,8 +1,8 @@
 use Rattle.std.proofs.Common.{◌<◌, ◌^◌, List, length, ap, ◌∙◌, subst}
-use Rattle.script_lang.specs.Flat.{nodes_of}
+use Rattle.script_forms.specs.Flat.{nodes_of}
 use Rattle.script_lang.specs.Numbered.{HasNumbers}
 use Rattle.script_lang.specs.ScriptInside.{view_of}
-use Rattle.script_lang.specs.declared.node.Node.{Node}
+use Rattle.script_forms.specs.declared.node.Node.{Node}
 use Rattle.script_lang.proofs.NodeTexts.{node_has_text}
 use Rattle.script_lang.proofs.NodesGoOn.{node_goes_on}
 use Rattle.script_lang.proofs.NodesStand.{node_stands, seen_at}

@@ -1,0 +1,3 @@
+pub mod DeclarationsRead
+pub mod EntriesRead
+pub mod FlowStepsRead

@@ -1,0 +1,31 @@
+-- What is made of a script while it is read: the definitions' `Made`, with the nodes themselves.
+use Rattle.std.specs.Prelude.{ℕ, List, [], length, All}
+use Rattle.eio_value.specs.Table.{HasText}
+use Rattle.eio_value.specs.declared.value.TextId.{TextId}
+use Rattle.script_model.specs.Reads.{Formed, Made}
+use Rattle.script_forms.specs.declared.node.Node.{Node}
+
+pub record Drafted : Type 0 where
+  pub nodes : List Node
+  pub texts : List (List ℕ)
+  pub failures : List TextId
+  pub formed : List Formed
+  pub steps : ℕ
+  pub entries : ℕ
+
+abbrev pub made_of : Drafted → Made
+made_of draft = record {
+  nodes = length draft.nodes;
+  texts = draft.texts;
+  failures = draft.failures;
+  formed = draft.formed;
+  steps = draft.steps;
+  entries = draft.entries;
+}
+
+abbrev pub nothing_drafted : Drafted
+nothing_drafted = record { nodes = []; texts = []; failures = []; formed = []; steps = 0; entries = 0 }
+
+-- the texts with which a fiber may fail stand in the table
+abbrev pub HasFailures : List (List ℕ) → List TextId → Type 0
+HasFailures texts failures = All (HasText texts) failures

@@ -1,0 +1,5 @@
+pub mod Calls
+pub mod Declaring
+pub mod Flat
+pub mod FormGroups
+pub mod Heads

@@ -1,5 +1,0 @@
-use Rattle.script_lang.proofs.Cursors.{end_passed}
-use Rattle.script_lang.proofs.cursor.Cursor.close.Goals as goal
-
-pub returns : goal.returns
-returns c = end_passed c.args.self.now c.pass.new.self c.requires c.pass.ensures

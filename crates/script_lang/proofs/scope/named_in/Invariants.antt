@@ -1,7 +1,0 @@
-use Rattle.std.proofs.Common.{◌≡◌, map, drop}
-use Rattle.script_model.specs.Scopes.{named_in}
-use Rattle.script_lang.specs.Names.{named_of}
-use Rattle.script_lang.proofs.scope.named_in.Given as goal
-
-abbrev pub invariant-loop-it : goal.invariant-loop-it
-invariant-loop-it l = named_in (map named_of (drop l.it-index l.names)) l.name ≡ named_in (map named_of l.names) l.name

@@ -1,0 +1,6 @@
+pub mod BodiesRead
+pub mod BranchesRead
+pub mod ExpressionsRead
+pub mod FormsRead
+pub mod LeavesRead
+pub mod StatementsRead

@@ -1,0 +1,25 @@
+use Rattle.std.proofs.Common.{sym, ◌∷◌, [], refl, append-nil, ap}
+use Rattle.std.proofs.lemmas.Result.{err_from_is_err_and}
+use Rattle.script_model.specs.Syntax as syntax
+use Rattle.script_model.specs.Statements.{form}
+use Rattle.script_forms.specs.Calls.{object_call_of}
+use Rattle.script_draft.specs.Drafts.{made_of}
+use Rattle.script_forms.specs.Flat.{flat_statement}
+use Rattle.script_forms.specs.declared.node.Node.TheVariants as node
+use Rattle.script_draft.proofs.Counts.{one_tree, one_ahead}
+use Rattle.script_statements.proofs.LeavesRead.{object_call_in_of}
+use Rattle.script_draft.proofs.Steps.{fails_first, fill_stated}
+use Rattle.script_statements.proofs.calls.object_form.Goals as goal
+
+pub returns-in_err-object-clause-reads : goal.returns-in_err-object-clause-reads
+unfolding form
+returns-in_err-object-clause-reads c =
+    let p = err_from_is_err_and c.from_residual.result c.from_residual.ensures.1 in
+    rw (p.1, p.2) (λ last at word. rw (one_ahead c.args.cursor.now c.requires.items, ← c.object_kind.ensures) (fails_first _ _ _ (c.in_err-object.ensures.reads (made_of c.args.draft.now))))
+
+pub returns-clause-reads : goal.returns-clause-reads
+unfolding form flat_statement
+returns-clause-reads c = λ last at word.
+    fill_stated _ c.args.scope.now c.args.opened c.args.draft.now c.args.draft.now c.fill.new.self (syntax.OnObject (object_call_of c.args.call) c.in_ok-object.object) (node.OnObject c.args.call c.in_ok-object.object) [] c.requires.opened
+    (rw (one_tree c.args.cursor.now c.used.new.cursor c.requires.items c.in_ok-object.ensures.past, ← c.object_kind.ensures, c.in_ok-object.ensures.reads (made_of c.args.draft.now)) refl)
+    (sym (append-nil _)) c.fill.ensures (ap (λ call. node.OnObject call c.in_ok-object.object ∷ []) (object_call_in_of c.args.call))

@@ -1,0 +1,31 @@
+use Rattle.std.proofs.Common.{◌∷◌, refl, ap}
+use Rattle.std.proofs.lemmas.Result.{err_from_is_err_and}
+use Rattle.script_model.specs.Syntax as syntax
+use Rattle.script_model.specs.Statements.{form}
+use Rattle.script_forms.specs.Calls.{object_call_with_of}
+use Rattle.script_draft.specs.Drafts.{made_of}
+use Rattle.script_forms.specs.Flat.{flat_statement, flat_expression}
+use Rattle.script_forms.specs.declared.node.Node.TheVariants as node
+use Rattle.script_draft.proofs.Counts.{two_trees, two_ahead, one_passed}
+use Rattle.script_statements.proofs.LeavesRead.{object_call_with_in_of}
+use Rattle.script_draft.proofs.Steps.{fails_first, fill_stated}
+use Rattle.script_statements.proofs.calls.object_form_with.Goals as goal
+
+pub returns-in_err-object-clause-reads : goal.returns-in_err-object-clause-reads
+unfolding form
+returns-in_err-object-clause-reads c =
+    let p = err_from_is_err_and c.from_residual.result c.from_residual.ensures.1 in
+    rw (p.1, p.2) (λ last at word. rw (two_ahead c.args.cursor.now c.requires.items, ← c.object_kind_with.ensures) (fails_first _ _ _ (c.in_err-object.ensures.reads (made_of c.args.draft.now))))
+
+pub returns-in_err-item-clause-reads : goal.returns-in_err-item-clause-reads
+unfolding form
+returns-in_err-item-clause-reads c =
+    let p = err_from_is_err_and c.from_residual-in_err-item.result c.from_residual-in_err-item.ensures.1 in
+    rw (p.1, p.2) (λ last at word. rw (one_passed c.args.cursor.now c.used.new.cursor c.requires.items c.in_ok-object.ensures.past, ← c.object_kind_with.ensures, c.in_ok-object.ensures.reads (made_of c.args.draft.now)) (fails_first _ _ _ c.in_err-item.ensures.reads))
+
+pub returns-clause-reads : goal.returns-clause-reads
+unfolding form flat_statement
+returns-clause-reads c = λ last at word.
+    fill_stated _ c.args.scope.now c.args.opened c.args.draft.now c.item.new.draft c.fill.new.self (syntax.OnObjectWith (object_call_with_of c.args.call) c.in_ok-object.object c.in_ok-item.ensures.reads.value) (node.OnObjectWith c.args.call c.in_ok-object.object) (flat_expression c.in_ok-item.ensures.reads.value) c.requires.opened
+    (rw (two_trees c.args.cursor.now c.used.new.cursor c.item.new.cursor c.requires.items c.in_ok-object.ensures.past c.in_ok-item.ensures.past, ← c.object_kind_with.ensures, c.in_ok-object.ensures.reads (made_of c.args.draft.now), c.in_ok-item.ensures.reads.gives) refl)
+    c.in_ok-item.ensures.reads.grows c.fill.ensures (ap (λ call. node.OnObjectWith call c.in_ok-object.object ∷ flat_expression c.in_ok-item.ensures.reads.value) (object_call_with_in_of c.args.call))

@@ -1,0 +1,29 @@
+use Rattle.std.proofs.Common.{refl}
+use Rattle.std.proofs.lemmas.Result.{err_from_is_err_and}
+use Rattle.script_model.specs.Syntax as syntax
+use Rattle.script_model.specs.Statements.{form}
+use Rattle.script_draft.specs.Drafts.{made_of}
+use Rattle.script_forms.specs.Flat.{flat_statement, flat_expression}
+use Rattle.script_forms.specs.declared.node.Node.TheVariants as node
+use Rattle.script_draft.proofs.Counts.{two_trees, two_ahead, one_passed}
+use Rattle.script_draft.proofs.Steps.{fails_first, fill_stated}
+use Rattle.script_statements.proofs.mock_forms.put_form.Goals as goal
+
+pub returns-in_err-writer-clause-reads : goal.returns-in_err-writer-clause-reads
+unfolding form
+returns-in_err-writer-clause-reads c =
+    let p = err_from_is_err_and c.from_residual.result c.from_residual.ensures.1 in
+    rw (p.1, p.2) (λ last at word. rw (two_ahead c.args.cursor.now c.requires.items) (fails_first _ _ _ (c.in_err-writer.ensures.reads (made_of c.args.draft.now))))
+
+pub returns-in_err-item-clause-reads : goal.returns-in_err-item-clause-reads
+unfolding form
+returns-in_err-item-clause-reads c =
+    let p = err_from_is_err_and c.from_residual-in_err-item.result c.from_residual-in_err-item.ensures.1 in
+    rw (p.1, p.2) (λ last at word. rw (one_passed c.args.cursor.now c.used.new.cursor c.requires.items c.in_ok-writer.ensures.past, c.in_ok-writer.ensures.reads (made_of c.args.draft.now)) (fails_first _ _ _ c.in_err-item.ensures.reads))
+
+pub returns-clause-reads : goal.returns-clause-reads
+unfolding form flat_statement
+returns-clause-reads c = λ last at word.
+    fill_stated _ c.args.scope.now c.args.opened c.args.draft.now c.item.new.draft c.fill.new.self (syntax.Put c.in_ok-writer.writer c.in_ok-item.ensures.reads.value) (node.Put c.in_ok-writer.writer) (flat_expression c.in_ok-item.ensures.reads.value) c.requires.opened
+    (rw (two_trees c.args.cursor.now c.used.new.cursor c.item.new.cursor c.requires.items c.in_ok-writer.ensures.past c.in_ok-item.ensures.past, c.in_ok-writer.ensures.reads (made_of c.args.draft.now), c.in_ok-item.ensures.reads.gives) refl)
+    c.in_ok-item.ensures.reads.grows c.fill.ensures refl

@@ -1,0 +1,23 @@
+use Rattle.std.proofs.Common.{refl}
+use Rattle.std.proofs.lemmas.Result.{err_from_is_err_and}
+use Rattle.script_model.specs.Syntax as syntax
+use Rattle.script_model.specs.Statements.{form}
+use Rattle.script_forms.specs.Flat.{flat_statement, flat_expression}
+use Rattle.script_forms.specs.declared.node.Node.TheVariants as node
+use Rattle.script_draft.proofs.Counts.{one_tree, one_ahead}
+use Rattle.script_draft.proofs.Steps.{fails_first, fill_stated}
+use Rattle.script_statements.proofs.statements.give_form.Goals as goal
+
+pub returns-in_err-item-clause-reads : goal.returns-in_err-item-clause-reads
+unfolding form
+returns-in_err-item-clause-reads c =
+    let p = err_from_is_err_and c.from_residual.result c.from_residual.ensures.1 in
+    rw (p.1, p.2) (λ at word. rw (one_ahead c.args.cursor.now c.requires.items) (fails_first _ _ _ c.in_err-item.ensures.reads))
+
+pub returns-clause-reads : goal.returns-clause-reads
+unfolding form flat_statement
+returns-clause-reads c = λ at word.
+    let read = c.in_ok-item.ensures.reads in
+    fill_stated _ c.args.scope.now c.args.opened c.args.draft.now c.item.new.draft c.fill.new.self (syntax.Give read.value) node.Give (flat_expression read.value) c.requires.opened
+    (rw (one_tree c.args.cursor.now c.item.new.cursor c.requires.items c.in_ok-item.ensures.past, read.gives) refl)
+    read.grows c.fill.ensures refl
