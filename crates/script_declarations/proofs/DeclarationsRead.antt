@@ -21,7 +21,8 @@ use Rattle.std.proofs.lemmas.Bool.Decides.{nat_tests}
 use Rattle.script_draft.specs.Taken.{TakesNumber}
 use Rattle.script_draft.proofs.Counts.{next_here, next_passed, has_none}
 use Rattle.script_declarations.specs.DeclarationsRead.{form_of, kind_in, feature_in, mocked_in, takes, items_read, named_read, worker_read, ends, is_main, before_main, from_main}
-use Rattle.script_draft.specs.Readings.{Fails, Makes}
+use Rattle.script_forms.specs.Faults.{Fails}
+use Rattle.script_draft.specs.Readings.{Makes}
 use Rattle.script_forms.specs.declared.fault.ScriptFault.{ScriptFault}
 use Rattle.script_draft.proofs.Steps.{fails_first}
 

@@ -17,7 +17,8 @@ use Rattle.script_tree.specs.Pieces.{Piece, first_tree}
 use Rattle.script_draft.specs.Ahead.{ahead, rest_of, has_tree, tree_ahead, tree_count, form_at, IsPast, IsInForm}
 use Rattle.script_draft.specs.Drafts.{Drafted, made_of}
 use Rattle.script_declarations.specs.EntriesRead.{head_of, takes, own_name, names_onto, names_in, listed, named}
-use Rattle.script_draft.specs.Readings.{Fails, Makes}
+use Rattle.script_forms.specs.Faults.{Fails}
+use Rattle.script_draft.specs.Readings.{Makes}
 use Rattle.script_declarations.specs.declared.entries.EntryHead.{EntryHead}
 use Rattle.script_declarations.specs.declared.entries.EntryHead.TheVariants as head
 use Rattle.std.proofs.lemmas.Bool.{false≢true}

@@ -7,7 +7,7 @@ use Rattle.script_model.specs.FlowSteps.{step, steps}
 use Rattle.script_model.specs.Trees.{Tree, Trees, And}
 use Rattle.script_tree.specs.Pieces.{Piece}
 use Rattle.script_draft.specs.Ahead.{ahead, rest_of, has_tree, tree_ahead, IsPast}
-use Rattle.script_draft.specs.Readings.{Fails}
+use Rattle.script_forms.specs.Faults.{Fails}
 use Rattle.script_forms.specs.declared.fault.ScriptFault.{ScriptFault}
 use Rattle.script_declarations.proofs.DeclarationsRead.{one_before}
 use Rattle.script_draft.proofs.Steps.{fails_first}

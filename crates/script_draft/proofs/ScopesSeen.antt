@@ -23,7 +23,7 @@ use Rattle.script_model.specs.Syntax.{Declared, Opened}
 use Rattle.script_model.specs.Trees.{Tree, Word, Number, Text, Branch, place_of}
 use Rattle.script_draft.specs.Ahead.{word_at}
 use Rattle.script_draft.specs.Names.{kind_of}
-use Rattle.script_draft.specs.Readings.{Fails}
+use Rattle.script_forms.specs.Faults.{Fails}
 
 at_front : (names : List Named) (i : ℕ) (it d : Named) → i < length names → it ≡ get_or names i d → drop i names ≡ it ∷ drop (i + 1) names
 at_front names i it d less e =

@@ -12,7 +12,8 @@ use Rattle.script_model.specs.Syntax.{Statement}
 use Rattle.script_model.specs.Scopes.{Scope}
 use Rattle.script_model.specs.Statements.{Stated}
 use Rattle.script_forms.specs.Flat.{flat_statement}
-use Rattle.script_draft.specs.Readings.{Fails, HasStated}
+use Rattle.script_forms.specs.Faults.{Fails}
+use Rattle.script_draft.specs.Readings.{HasStated}
 use Rattle.script_forms.specs.declared.fault.ScriptFault.{ScriptFault}
 use Rattle.script_forms.specs.declared.fault.ScriptFault.TheVariants as fault
 use Rattle.script_forms.specs.declared.node.Node.{Node}

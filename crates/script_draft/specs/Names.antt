@@ -7,7 +7,7 @@ use Rattle.script_model.specs.Reads.{Made}
 use Rattle.script_draft.specs.declared.kind.Kind.{Kind}
 use Rattle.script_draft.specs.declared.scope.Named.{Named}
 use Rattle.script_forms.specs.declared.fault.ScriptFault.{ScriptFault}
-use Rattle.script_draft.specs.Readings.{Fails}
+use Rattle.script_forms.specs.Faults.{Fails}
 use Rattle.script_draft.specs.declared.kind.Kind.TheVariants as kind
 
 abbrev pub kind_of : Kind → model.Kind

@@ -1,23 +1,14 @@
 -- What a reading function of the code gave, beside what the definitions' steps give.
 use Rattle.std.specs.Prelude.{◌≡◌, ℕ, List, ◌++◌, length, take, Result, Ok, Err}
-use Rattle.script_model.specs.Faults as model
 use Rattle.script_model.specs.Reads.{Made, Reads}
 use Rattle.script_model.specs.Syntax.{Statement, Expressions}
 use Rattle.script_model.specs.Scopes.{Scope}
 use Rattle.script_model.specs.Statements.{Stated}
 use Rattle.script_draft.specs.Drafts.{Drafted, made_of}
 use Rattle.script_forms.specs.Flat.{flat_statement, flat_expressions, expression_count}
+use Rattle.script_forms.specs.Faults.{Fails}
 use Rattle.script_forms.specs.declared.fault.ScriptFault.{ScriptFault}
-use Rattle.script_forms.specs.declared.fault.ScriptFault.TheVariants as fault
 use Rattle.script_forms.specs.declared.node.Node.{Node}
-
--- the definitions refuse so, with the same place; where memory ran out, nothing is said of them
-abbrev pub Fails : {A : Type 0} → ScriptFault → Result A model.ScriptFault → Type 0
-Fails fault.NoMemory read = Unit {0}
-Fails (fault.Shape at) read = read ≡ Err (model.Shape at)
-Fails (fault.Name at) read = read ≡ Err (model.Name at)
-Fails (fault.Twice at) read = read ≡ Err (model.Twice at)
-Fails (fault.Size at) read = read ≡ Err (model.Size at)
 
 -- a step that makes nothing gives what the code gave, or its fault
 abbrev pub Finds : {X A : Type 0} → (X → A) → Result X ScriptFault → Reads A → Type 0

@@ -9,7 +9,7 @@ use Rattle.script_model.specs.Scripts.{Script, script_of}
 use Rattle.script_model.specs.Inputs.{input_script}
 use Rattle.script_forms.specs.declared.fault.ScriptFault.{ScriptFault}
 use Rattle.script_forms.specs.declared.fault.ScriptFault.TheVariants as fault
-use Rattle.script_draft.specs.Readings.{Fails}
+use Rattle.script_forms.specs.Faults.{Fails}
 use Rattle.script_input.specs.declared.fault.InputFault.{InputFault}
 use Rattle.script_input.specs.declared.fault.InputFault.TheVariants as input_fault
 use Rattle.script_input.specs.Refusals.{Refuses, of_script_fault}

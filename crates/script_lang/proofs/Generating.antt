@@ -6,7 +6,7 @@ use Rattle.script_model.specs.Scripts.{Script, script_of}
 use Rattle.script_model.specs.Trees.{Tree}
 use Rattle.script_laws.specs.Generated.{IsScript}
 use Rattle.script_laws.proofs.Generated.{generated_is_read}
-use Rattle.script_draft.specs.Readings.{Fails}
+use Rattle.script_forms.specs.Faults.{Fails}
 use Rattle.script_forms.specs.declared.fault.ScriptFault.{ScriptFault}
 use Rattle.script_forms.specs.declared.fault.ScriptFault.TheVariants as fault
 

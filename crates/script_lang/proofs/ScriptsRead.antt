@@ -17,7 +17,8 @@ use Rattle.script_draft.specs.Ahead.{ahead, around, rest_of, tree_ahead, has_tre
 use Rattle.script_statements.specs.Blocks.{HasBlock, Blocked}
 use Rattle.script_draft.specs.Drafts.{Drafted, made_of}
 use Rattle.script_forms.specs.Flat.{flat_statements, flat_bodies, number_of}
-use Rattle.script_draft.specs.Readings.{Fails, Grows, HasGrown}
+use Rattle.script_forms.specs.Faults.{Fails}
+use Rattle.script_draft.specs.Readings.{Grows, HasGrown}
 use Rattle.script_lang.specs.ScriptsRead.{domain_by, domain_of, one_if, bodies_read, HasBodies, HasParts}
 use Rattle.script_declarations.specs.DeclarationsRead.{from_main, is_main, IsAtMain}
 use Rattle.script_draft.specs.Taken.{Opens, Enters}

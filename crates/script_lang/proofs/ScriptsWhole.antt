@@ -14,7 +14,7 @@ use Rattle.script_draft.specs.Ahead.{ahead, tree_ahead, has_tree}
 use Rattle.script_declarations.specs.DeclarationsRead.{before_main, from_main, is_main, IsAtMain}
 use Rattle.script_draft.specs.Drafts.{Drafted, made_of, nothing_drafted}
 use Rattle.script_forms.specs.Flat.{flat_bodies}
-use Rattle.script_draft.specs.Readings.{Fails}
+use Rattle.script_forms.specs.Faults.{Fails}
 use Rattle.script_lang.specs.ScriptsRead.{bodies_read, HasBodies, HasRoot}
 use Rattle.script_forms.specs.declared.fault.ScriptFault.{ScriptFault}
 use Rattle.script_declarations.proofs.DeclarationsRead.{parts_before, parts_from}

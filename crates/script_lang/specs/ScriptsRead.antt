@@ -11,7 +11,7 @@ use Rattle.script_model.specs.Declarations.{Declared}
 use Rattle.script_model.specs.Scripts.{Script, Parts, items_behind, parts_of, bodies_of, body, domains, first_place, script_of_parts}
 use Rattle.script_draft.specs.Drafts.{Drafted, made_of}
 use Rattle.script_forms.specs.Flat.{flat_bodies, number_of}
-use Rattle.script_draft.specs.Readings.{Fails}
+use Rattle.script_forms.specs.Faults.{Fails}
 use Rattle.script_forms.specs.declared.fault.ScriptFault.{ScriptFault}
 use Rattle.script_forms.specs.declared.fault.ScriptFault.TheVariants.{NoMemory}
 use Rattle.script_lang.specs.declared.reader.Bodies.{Bodies}

@@ -9,7 +9,7 @@ ghost use Rattle.script_draft.specs.Ahead.{ahead, has_tree, tree_ahead, IsPast};
 ghost use Rattle.script_statements.specs.Blocks.{Blocked};
 ghost use Rattle.script_declarations.specs.DeclarationsRead.{IsAtMain, is_main};
 ghost use Rattle.script_forms.specs.declared.fault.ScriptFault.TheVariants.{NoMemory};
-ghost use Rattle.script_draft.specs.Readings.{Fails};
+ghost use Rattle.script_forms.specs.Faults.{Fails};
 ghost use Rattle.script_lang.specs.ScriptsRead.{domain_of, one_if, Bodied, Roots, Names};
 
 use crate::script::{Parts, Script};

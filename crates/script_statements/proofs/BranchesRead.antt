@@ -13,7 +13,8 @@ use Rattle.script_statements.specs.Blocks.{HasBlock}
 use Rattle.script_forms.specs.Calls.{group_of, group_in}
 use Rattle.script_draft.specs.Drafts.{Drafted, made_of}
 use Rattle.script_forms.specs.Flat.{flat_statement, flat_statements, flat_blocks, numbers_of}
-use Rattle.script_draft.specs.Readings.{Fails, HasStated}
+use Rattle.script_forms.specs.Faults.{Fails}
+use Rattle.script_draft.specs.Readings.{HasStated}
 use Rattle.script_forms.specs.declared.fault.ScriptFault.{ScriptFault}
 use Rattle.script_forms.specs.declared.node.Group.{Group}
 use Rattle.script_forms.specs.declared.node.Group.TheVariants as group

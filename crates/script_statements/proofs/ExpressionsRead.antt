@@ -13,7 +13,8 @@ use Rattle.script_model.specs.Expressions.{item, operation}
 use Rattle.script_draft.specs.Ahead.{number_at, text_at, list_at, form_at}
 use Rattle.script_draft.specs.Drafts.{Drafted, made_of}
 use Rattle.script_forms.specs.Flat.{flat_expression}
-use Rattle.script_draft.specs.Readings.{Fails, HasGrown}
+use Rattle.script_forms.specs.Faults.{Fails}
+use Rattle.script_draft.specs.Readings.{HasGrown}
 use Rattle.script_forms.specs.declared.fault.ScriptFault.{ScriptFault}
 use Rattle.script_forms.specs.declared.node.Node.TheVariants as node
 use Rattle.std.specs.Prelude.{min, OnOk, IfErr}

@@ -19,7 +19,8 @@ use Rattle.script_forms.specs.Calls.{group_of}
 use Rattle.script_draft.specs.Drafts.{Drafted, made_of}
 use Rattle.script_forms.specs.Flat.{flat_statement, flat_statements, flat_expression}
 use Rattle.script_forms.specs.Heads.{head_of, arity_of, shape_of, Fits}
-use Rattle.script_draft.specs.Readings.{Fails, HasGrown, HasStated}
+use Rattle.script_forms.specs.Faults.{Fails}
+use Rattle.script_draft.specs.Readings.{HasGrown, HasStated}
 use Rattle.script_statements.specs.declared.bodies.BodyForm.{BodyForm}
 use Rattle.script_forms.specs.declared.fault.ScriptFault.{ScriptFault}
 use Rattle.script_forms.specs.declared.heads.Head.{Head}

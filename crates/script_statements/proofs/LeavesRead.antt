@@ -24,7 +24,8 @@ use Rattle.script_statements.specs.Captured.{captured_next, HasCaptured}
 use Rattle.script_draft.specs.Drafts.{Drafted, made_of}
 use Rattle.script_forms.specs.Flat.{flat_expression, flat_expressions, expression_count}
 use Rattle.script_draft.specs.Names.{named_of}
-use Rattle.script_draft.specs.Readings.{Fails, HasGrown, HasTraced}
+use Rattle.script_forms.specs.Faults.{Fails}
+use Rattle.script_draft.specs.Readings.{HasGrown, HasTraced}
 use Rattle.script_statements.specs.declared.captures.Job.{Job}
 use Rattle.script_forms.specs.declared.fault.ScriptFault.{ScriptFault}
 use Rattle.script_forms.specs.declared.node.Directory.{Directory}

@@ -21,7 +21,8 @@ use Rattle.script_statements.specs.Blocks.{is_last, HasOpened, Blocked, HasValue
 use Rattle.script_draft.specs.Drafts.{Drafted, made_of}
 use Rattle.script_forms.specs.Flat.{flat_statement, flat_statements, flat_expression}
 use Rattle.script_forms.specs.Heads.{form_seen, head_of}
-use Rattle.script_draft.specs.Readings.{Fails, Grows, HasGrown, HasStated, States}
+use Rattle.script_forms.specs.Faults.{Fails}
+use Rattle.script_draft.specs.Readings.{Grows, HasGrown, HasStated, States}
 use Rattle.script_forms.specs.declared.heads.Form.{Form}
 use Rattle.script_forms.specs.declared.fault.ScriptFault.{ScriptFault}
 use Rattle.script_forms.specs.declared.node.Node.TheVariants as node

@@ -9,7 +9,7 @@ use Rattle.script_forms.specs.Flat.{flat_statement, flat_statements}
 use Rattle.script_draft.specs.Ahead.{form_at}
 use Rattle.script_forms.specs.Heads.{form_seen}
 use Rattle.script_forms.specs.declared.heads.Form.{Form}
-use Rattle.script_draft.specs.Readings.{Fails}
+use Rattle.script_forms.specs.Faults.{Fails}
 use Rattle.script_forms.specs.declared.fault.ScriptFault.{ScriptFault}
 use Rattle.script_forms.specs.declared.node.Node.{Node}
 use Rattle.script_forms.specs.declared.node.Node.TheVariants as node

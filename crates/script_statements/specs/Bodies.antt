@@ -10,7 +10,7 @@ use Rattle.script_tree.specs.Pieces.{Piece}
 use Rattle.script_draft.specs.Ahead.{around}
 use Rattle.script_draft.specs.Drafts.{Drafted, made_of}
 use Rattle.script_forms.specs.Flat.{flat_statement, flat_statements, headed}
-use Rattle.script_draft.specs.Readings.{Fails}
+use Rattle.script_forms.specs.Faults.{Fails}
 use Rattle.script_statements.specs.declared.bodies.BodyForm.{BodyForm}
 use Rattle.script_statements.specs.declared.bodies.BodyForm.TheVariants as form
 use Rattle.script_statements.specs.declared.bodies.Opened.{Opened}

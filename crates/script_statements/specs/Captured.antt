@@ -7,7 +7,7 @@ use Rattle.script_model.specs.Limits.{most_captured}
 use Rattle.script_model.specs.Reads.{Made, Reads, ◌>>>◌, gives, refuses, requires_that}
 use Rattle.script_model.specs.Scopes.{Named, Scope, named_in, used}
 use Rattle.script_model.specs.Trees.{Tree, Word, place_of}
-use Rattle.script_draft.specs.Readings.{Fails}
+use Rattle.script_forms.specs.Faults.{Fails}
 use Rattle.script_statements.specs.declared.captures.Job.{Job}
 use Rattle.script_forms.specs.declared.fault.ScriptFault.{ScriptFault}
 
