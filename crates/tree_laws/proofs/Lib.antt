@@ -6,3 +6,4 @@ pub mod Runs
 pub mod Read
 pub mod Back
 pub mod Canonical
+mod Worked
