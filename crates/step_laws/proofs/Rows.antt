@@ -1,6 +1,7 @@
 -- Two fibers that differ in all that doesn't count, so that the premises of the laws can be met; and what the judgement asks of a statement.
-use Rattle.std.proofs.Common.{◌≡◌, ◌≢◌, ◌<◌, ℕ, zero, suc, ◌==◌, List, [], ◌∷◌, codes, get_or, pos, refl, ap, arith}
+use Rattle.std.proofs.Common.{◌≡◌, ◌≢◌, ◌<◌, ℕ, zero, suc, ◌==◌, All, List, [], ◌∷◌, codes, get_or, pos, refl, ap, arith}
 use Rattle.std.proofs.lemmas.Bool.{false≢true}
+use Rattle.std.proofs.lemmas.List.Elements.{All-from_recursion}
 use Rattle.std.proofs.lemmas.List.Kept.{AllPairs-cons}
 use Rattle.eio_value.specs.Table.{AreDifferent, text_id}
 use Rattle.eio_value.specs.declared.raised.Outcome.TheVariants as outcome
@@ -8,13 +9,18 @@ use Rattle.eio_value.specs.declared.value.Value.TheVariants as value
 use Rattle.script_model.specs.Syntax.{Statement, Trace, Submit, Variable, NoExpressions, AndExpression, Block, Begins, Done, Then}
 use Rattle.step_model.specs.Asks as ask
 use Rattle.step_model.specs.Evaluation.{value_of, values_of, value_at}
+use Rattle.step_model.specs.Replies.{begun, entered}
 use Rattle.step_model.specs.Settling.{Settled, answered, thrown}
 use Rattle.step_model.specs.Silent.{statement, statements}
 use Rattle.step_model.specs.Work as work
-use Rattle.step_model.specs.Work.{Work, Carry}
-use Rattle.step_laws.specs.Sights.{Sight, IsInScope, SeesExpression, SeesExpressions, SeesStatement, SeesStatements}
-use Rattle.step_laws.specs.Alike.{Ends, Goes, AlikeValue, Units, Texts, Oks}
-use Rattle.step_laws.specs.AlikeWork.{Runs, tables_of, AlikeCarry, AlikeSettled}
+use Rattle.step_model.specs.Work.{Work, Carry, restored}
+use Rattle.step_laws.specs.Sights.{Sight, IsInScope, SeesExpression, SeesExpressions, SeesStatement, SeesBlock, SeesStatements}
+use Rattle.step_laws.specs.Alike.{Ends, Goes, AlikeLists, AlikeValue, Units, Texts, Oks}
+use Rattle.step_laws.specs.AlikeCalls.{Switches}
+use Rattle.step_laws.specs.AlikeWork.{Runs, tables_of, AlikeCarry, AlikePosition, AlikeSettled}
+use Rattle.step_laws.specs.Laws.{IsAlikeAt, given_to}
+use Rattle.step_laws.proofs.Between.{fibers_stay_alike}
+use Rattle.step_laws.proofs.Jobs.{jobs_see_captured}
 use Rattle.step_laws.proofs.Settling.{next_call_sees_scope}
 
 -- the second variable is in scope, and no text of the script is
@@ -83,6 +89,31 @@ unfolding SeesStatements
 calls_alike =
     next_call_sees_scope second_alone (outcome.Ok value.Unit) (outcome.Ok value.Unit) left left one other (Oks Units)
     (Goes (Runs (Then (traced 1) Done) (sees_second, tt)) Ends) carries_alike
+
+sees_block : SeesBlock second_alone (one_block (traced 1))
+unfolding SeesBlock SeesStatements
+sees_block = (sees_second, tt)
+
+-- what is given to a job that captures the second variable, and the job's first call
+captured_alike : All (IsAlikeAt one other) (1 ∷ [])
+captured_alike = All-from_recursion (IsAlikeAt one other) (1 ∷ []) (in_scope 1 refl, tt)
+
+given_alike : AlikeLists (AlikeValue (tables_of one other)) (given_to (1 ∷ []) one) (given_to (1 ∷ []) other)
+given_alike = jobs_see_captured.given (1 ∷ []) one other captured_alike
+
+job_calls_alike : AlikeSettled second_alone
+    (answered (begun (one_block (traced 1)) (given_to (1 ∷ []) one)).work value.Unit (restored (given_to (1 ∷ []) one) one))
+    (answered (begun (one_block (traced 1)) (given_to (1 ∷ []) other)).work value.Unit (restored (given_to (1 ∷ []) other) other))
+job_calls_alike =
+    jobs_see_captured.job second_alone (one_block (traced 1)) (given_to (1 ∷ []) one) (given_to (1 ∷ []) other) value.Unit value.Unit one other sees_block
+    given_alike carries_alike.tables
+
+-- both go into the block of a switch of the same number
+entered_alike : AlikePosition second_alone (tables_of one other)
+    (entered (ask.Switch (one_block (traced 1))) 0 [] one.variables) (entered (ask.Switch (one_block (traced 1))) 0 [] other.variables)
+entered_alike =
+    fibers_stay_alike.enters second_alone (tables_of one other) (ask.Switch (one_block (traced 1))) (ask.Switch (one_block (traced 1))) 0 [] [] one.variables
+    other.variables (Switches (one_block (traced 1)) sees_block) Ends carries_alike.variables
 
 sees_first : SeesStatement second_alone (traced 0) → ⊥
 unfolding SeesStatement SeesExpressions SeesExpression
