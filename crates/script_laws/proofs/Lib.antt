@@ -19,3 +19,4 @@ pub mod Bare
 pub mod BareScripts
 pub mod Printing
 pub mod Generated
+pub mod Worked
