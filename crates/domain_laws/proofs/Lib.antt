@@ -37,3 +37,4 @@ pub mod FirstForms
 pub mod EndingAlone
 pub mod Conditions
 mod Rows
+pub mod Worked
