@@ -5,3 +5,4 @@ pub mod GroupCalls
 pub mod Keeping
 pub mod Opening
 pub mod Naming
+pub mod Worked

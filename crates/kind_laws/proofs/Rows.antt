@@ -43,19 +43,19 @@ facts = facts_of script third
 
 -- ## Blocks by their numbers
 
-inner_numbered : block_numbered script 1 ≡ inner
+pub inner_numbered : block_numbered script 1 ≡ inner
 unfolding block_numbered blocks_from blocks_of_statements blocks_of_statement
 inner_numbered = refl
 
-forked_numbered : block_numbered script 2 ≡ forked
+pub forked_numbered : block_numbered script 2 ≡ forked
 unfolding block_numbered blocks_from blocks_of_statements blocks_of_statement
 forked_numbered = refl
 
-inner_its : Contains (flat_map blocks_from script.bodies) inner
+pub inner_its : Contains (flat_map blocks_from script.bodies) inner
 unfolding blocks_from blocks_of_statements blocks_of_statement
 inner_its = Contains-get_or (main ∷ inner ∷ forked ∷ []) 1 inner (omega arith)
 
-forked_its : Contains (flat_map blocks_from script.bodies) forked
+pub forked_its : Contains (flat_map blocks_from script.bodies) forked
 unfolding blocks_from blocks_of_statements blocks_of_statement
 forked_its = Contains-get_or (main ∷ inner ∷ forked ∷ []) 2 forked (omega arith)
 

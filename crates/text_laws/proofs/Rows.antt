@@ -1,6 +1,7 @@
 -- A script that fails and catches what it failed with, so that the premises of the laws can be met; and what the definitions refuse.
-use Rattle.std.proofs.Common.{◌≡◌, arith, All, Contains, List, [], ◌∷◌, map, codes, None, refl}
-use Rattle.std.proofs.lemmas.List.Elements.{All-append, All-contains, All-from_recursion}
+use Rattle.std.proofs.Common.{◌≡◌, ◌≤◌, arith, false, All, Contains, List, length, [], ◌∷◌, map, codes, pos, None, Ok, refl}
+use Rattle.std.proofs.lemmas.List.Elements.{All-append, All-contains, All-from_recursion, Contains-get_or}
+use Rattle.eio_value.specs.Exceptions.{bound_text}
 use Rattle.eio_value.specs.Table.{HasText, text_at, text_id, intern}
 use Rattle.eio_value.specs.declared.plain.PathFault.TheVariants.{NotFound}
 use Rattle.eio_value.specs.declared.plain.Plain.{Plain}
@@ -9,21 +10,43 @@ use Rattle.eio_value.specs.declared.raised.Outcome.TheVariants as outcome
 use Rattle.eio_value.specs.declared.raised.Raised.{Raised}
 use Rattle.eio_value.specs.declared.raised.Raised.TheVariants as raised
 use Rattle.eio_value.specs.declared.value.Value.TheVariants as value
+use Rattle.script_model.specs.Captures.{captured_behind}
+use Rattle.script_model.specs.Declarations.{workers, declaration, declarations_behind}
+use Rattle.script_model.specs.declared.Feature.TheVariants as feature
+use Rattle.script_model.specs.Entries.{entries}
+use Rattle.script_model.specs.Expressions.{item, traced}
+use Rattle.script_model.specs.FlowSteps.{steps}
+use Rattle.script_model.specs.Forms.{form_of}
 use Rattle.script_model.specs.Opening.{textless, exceptions_of, opening_texts}
-use Rattle.script_model.specs.Scripts.{Script}
+use Rattle.script_model.specs.Scopes.{bring, used, directory_of}
+use Rattle.script_model.specs.Scripts.{Script, domains, script_of}
+use Rattle.script_model.specs.Statements as reading
 use Rattle.script_model.specs.Syntax.{Raise, Try, Trace, Variable, NoExpressions, AndExpression, Block, Begins, Done, Then}
+use Rattle.script_model.specs.Trees as trees
+use Rattle.script_model.specs.Trees.{Tree}
 use Rattle.step_model.specs.Asks as ask
 use Rattle.step_model.specs.Evaluation.{value_of, values_of}
 use Rattle.step_model.specs.Settling.{answered, thrown}
 use Rattle.step_model.specs.Silent.{statement, block, statements}
 use Rattle.step_model.specs.Work as work
 use Rattle.step_model.specs.Work.{Work, Carry}
+use Rattle.trace_out.specs.declared.line.Did.TheVariants as did
+use Rattle.trace_out.specs.declared.line.Said2.TheVariants as said
+use Rattle.machine_model.specs.Domain.{DomainState}
 use Rattle.machine_model.specs.Histories.{domain_at_first}
+use Rattle.machine_model.specs.Labels.{Inner}
+use Rattle.machine_model.specs.Moves.{asks, own_call, after, line_of}
+use Rattle.machine_model.specs.Preparing.{prepared}
+use Rattle.machine_model.specs.Runs.{Noted, DomainMoves}
 use Rattle.text_laws.specs.Texts.{IsWrittenExpression, AreWrittenExpressions, IsWrittenStatement, IsWrittenBlock, AreWritten, written_in, known_in, IsHeldRaised, IsTextedWork}
-use Rattle.text_laws.specs.Laws.{HasItsTexts, StaysKnown}
+use Rattle.text_laws.specs.DomainLaws.{MovesTexted, PreparesTexted}
+use Rattle.text_laws.specs.Laws.{HasItsTexts, StaysKnown, StaysTexted}
 use Rattle.text_laws.specs.Domains.{IsTexted}
-use Rattle.text_laws.proofs.Passing.{known_stay}
-use Rattle.text_laws.proofs.Moving.{openings_are_texted}
+use Rattle.text_laws.proofs.Bound.{bound_texts_stand}
+use Rattle.text_laws.proofs.Passing.{known_stay, texts_stay}
+use Rattle.text_laws.proofs.Preparing.{prepares_keep_texted}
+use Rattle.text_laws.proofs.Moving.{keeps_texted, known_have_texts, openings_are_texted}
+use Rattle.text_laws.proofs.ReadScripts.{read_scripts_have_texts}
 
 -- (eio 1 (main (try ((raise "x")) e ((trace e)))))
 abbrev tried : Block
@@ -56,7 +79,10 @@ script_texts = record {
   bodies = All-from_recursion (IsWrittenBlock (written_in script)) script.bodies (main_written, tt);
 }
 
-opens : IsTexted script (domain_at_first script 0)
+abbrev at_first : DomainState
+at_first = domain_at_first script 0
+
+opens : IsTexted script at_first
 opens = (openings_are_texted script script_texts).first 0
 
 -- ## Its table
@@ -93,6 +119,69 @@ rest_texted = (main_written, tt)
 
 next_known : StaysKnown script (answered rest value.Unit carry)
 next_known = known_stay script (outcome.Ok value.Unit) rest carry script_texts.failures refl tt rest_texted tt
+
+-- so it is in any table that is long enough
+is_long : length script.texts ≤ length (opening_texts script)
+unfolding opening_texts
+is_long = omega arith
+
+next_texted : StaysTexted script (opening_texts script) (answered rest value.Unit carry)
+next_texted = texts_stay script (outcome.Ok value.Unit) rest carry script_texts.failures is_long tt rest_texted tt
+
+-- ## Its domain
+
+-- the failure, as a reason
+failure_listed : Contains (exceptions_of script) (plain.Failure (text_id 0))
+failure_listed = Contains-get_or (exceptions_of script) 0 (plain.Failure (text_id 0)) (omega arith)
+
+abbrev failed : Raised
+failed = raised.One (record { serial = 0; what = plain.Failure (text_id 0) })
+
+bound_stands : (intern (opening_texts script) (bound_text (opening_texts script) failed)).texts ≡ opening_texts script
+bound_stands = bound_texts_stand script failed script_texts.failures failure_listed
+
+its_text_stands : HasText (opening_texts script) (text_id 0)
+its_text_stands = known_have_texts.failures script (text_id 0) script_texts.failures (Contains-get_or script.failures 0 (text_id 0) (omega arith))
+
+prepares : PreparesTexted script at_first
+prepares = prepares_keep_texted script at_first script_texts.failures opens
+
+abbrev traces_bound : Noted
+traces_bound = record {
+  line = record { stamp = 1; domain = 0; fiber = 0; did = did.Trace (value.Text (text_id 1) ∷ []); reply = said.Done value.Unit };
+  label = Inner;
+  away = None;
+  from = 0;
+}
+
+it_moves : DomainMoves script at_first traces_bound (after script at_first 1 Inner)
+unfolding asks line_of prepared own_call answered thrown statement block statements value_of values_of opening_texts
+it_moves = record { runs = refl; fits = refl; later = omega arith; told = refl; next = refl }
+
+stays : MovesTexted script at_first traces_bound (after script at_first 1 Inner)
+stays = keeps_texted script at_first (after script at_first 1 Inner) traces_bound script_texts opens refl it_moves
+
+-- ## A script that is read
+
+-- (eio 1 (main (raise "x")))
+abbrev raising : Tree
+raising =
+    trees.Branch 0 (trees.And (trees.Word 1 (codes "eio")) (trees.And (trees.Number 5 (pos 1))
+    (trees.And (trees.Branch 7 (trees.And (trees.Word 8 (codes "main")) (trees.And (trees.Branch 13 (trees.And (trees.Word 14 (codes "raise"))
+    (trees.And (trees.Text 20 (codes "x")) trees.Nil))) trees.Nil))) trees.Nil)))
+
+abbrev raises : Script
+raises = record script {
+  bodies = Begins 0 (Then (Raise (text_id 0)) Done) ∷ [];
+  formed = record { at = 13; feature = feature.Exceptions; mocked = false } ∷ [];
+}
+
+it_is_read : script_of raising ≡ Ok raises
+unfolding bring used directory_of form_of item traced captured_behind reading.statements steps entries workers declaration declarations_behind domains script_of
+it_is_read = refl
+
+it_has_its_texts : HasItsTexts raises
+it_has_its_texts = read_scripts_have_texts raising raises it_is_read
 
 -- ## What is refused
 
