@@ -3,3 +3,4 @@ pub mod Statements
 pub mod FeatureScripts
 pub mod NextLists
 pub mod Rows
+mod Worked

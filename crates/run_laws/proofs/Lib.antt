@@ -12,3 +12,4 @@ pub mod Preparing
 pub mod Sharing
 pub mod Raises
 pub mod Serials
+mod Worked
