@@ -6,7 +6,7 @@ use std::collections::VecDeque;
 use std::marker::Model;
 
 /// What a read of a scripted flow gives.
-#[derive(Debug, Drop)]
+#[derive(Drop)]
 pub enum FlowRead {
     /// These bytes came.
     Data(Bytes),

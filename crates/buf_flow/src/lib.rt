@@ -21,6 +21,3 @@ pub use flow::{FlowRead, MockFlow};
 pub use laws::{calls_end_by_bytes_to_come, cuts_alike, decided_stays, histories_alike};
 pub use read::{BufRead, Item};
 pub use write::BufWrite;
-
-#[cfg(test)]
-mod tests;

@@ -14,7 +14,7 @@ use std::alloc::Global;
 use std::marker::Model;
 
 /// What a call of a reader answers.
-#[derive(Debug, Drop)]
+#[derive(Drop)]
 pub enum Item {
     /// These bytes, which the reader holds no longer.
     Bytes(Bytes),

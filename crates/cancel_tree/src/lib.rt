@@ -5,8 +5,6 @@ mod cancelling;
 mod contexts;
 mod forgetting;
 mod kept;
-#[cfg(test)]
-mod tests;
 mod tree;
 mod waiters;
 

@@ -11,8 +11,6 @@
 mod crew;
 mod exec;
 mod laws;
-#[cfg(test)]
-mod tests;
 
 pub use exec::Exec;
 pub use laws::{start_in_order, weights_are_bounded};

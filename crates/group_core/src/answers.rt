@@ -3,7 +3,7 @@
 use eio_value::{Plain, Raised, Value};
 
 /// What the end of a branch brings.
-#[derive(Clone, Copy, Debug)]
+#[derive(Clone, Copy)]
 pub struct BranchEnded {
     /// Why the group's context is cancelled, if it is.
     pub cancels: Option<Plain>,
@@ -12,7 +12,7 @@ pub struct BranchEnded {
 }
 
 /// What a call of `join` finds.
-#[derive(Clone, Copy, Debug)]
+#[derive(Clone, Copy)]
 pub enum JoinStep {
     /// Branches are left: wait for the last of them.
     Wait,

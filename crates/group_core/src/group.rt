@@ -13,7 +13,7 @@ use eio_value::{Outcome, Plain, Raised, Value, combine, reason};
 use std::marker::Model;
 
 /// A group, by the numbers of its context and of the fiber that joins it.
-#[derive(Debug, Drop)]
+#[derive(Drop)]
 pub(crate) struct Group {
     kind: GroupKind,
     context: u32,

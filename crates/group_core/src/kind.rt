@@ -5,7 +5,7 @@ ghost use Rattle.row_model.specs.Groups.{keeps_a_value};
 ghost use Rattle.group_core.specs.Kinds.{kind_of};
 
 /// Which call made a group.
-#[derive(Clone, Copy, Debug)]
+#[derive(Clone, Copy)]
 pub enum GroupKind {
     Both,
     All,

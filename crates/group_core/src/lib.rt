@@ -14,6 +14,3 @@ mod kind;
 pub use answers::{BranchEnded, JoinStep};
 pub use groups::Groups;
 pub use kind::GroupKind;
-
-#[cfg(test)]
-mod tests;

@@ -37,7 +37,7 @@ fn parts(alloc: Global, path: &[u8]) -> Result<Vec<&[u8]>, AllocError>
 }
 
 /// Components that are left, the next one last.
-#[derive(Debug, Drop)]
+#[derive(Drop)]
 pub struct Components {
     names: Vec<Bytes>,
 }

@@ -11,7 +11,7 @@ use std::alloc::Global;
 use std::cmp::Ordering;
 use std::marker::Model;
 
-#[derive(Debug, Drop)]
+#[derive(Drop)]
 pub struct Directory {
     entries: Vec<Item>,
     removed: bool,

@@ -6,7 +6,7 @@ use eio_value::Bytes;
 use std::marker::Model;
 
 /// What a name stands for.
-#[derive(Debug, Drop)]
+#[derive(Drop)]
 pub enum Node {
     /// A file and its content.
     File(Bytes),
@@ -17,7 +17,7 @@ pub enum Node {
 }
 
 /// A name, and what it stands for.
-#[derive(Debug, Drop)]
+#[derive(Drop)]
 pub struct Item {
     name: Bytes,
     node: Node,

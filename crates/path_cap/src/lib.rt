@@ -20,6 +20,3 @@ pub use laws::{
     changes_stay_below, leads_stay_below, names_stay_in_order, refused_changes_nothing,
 };
 pub use tree::DirTree;
-
-#[cfg(test)]
-mod tests;

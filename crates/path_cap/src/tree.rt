@@ -14,7 +14,7 @@ use std::alloc::Global;
 use std::marker::Model;
 
 /// A tree of directories, files and links. The first directory is the root.
-#[derive(Debug, Drop)]
+#[derive(Drop)]
 pub struct DirTree {
     directories: Vec<Directory>,
 }

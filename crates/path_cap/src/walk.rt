@@ -18,7 +18,7 @@ use std::marker::Model;
 const MOST_LINKS: u32 = 40;
 
 /// A step down: the directory that it was made in, and the name.
-#[derive(Debug, Drop)]
+#[derive(Drop)]
 pub struct Step {
     above: u32,
     name: Bytes,
@@ -47,7 +47,7 @@ impl Step {
 }
 
 /// A place on the way: a directory, and the steps that lead to it from the capability, the last one last.
-#[derive(Debug, Drop)]
+#[derive(Drop)]
 pub struct Place {
     here: u32,
     steps: Vec<Step>,
@@ -111,7 +111,7 @@ impl Place {
 }
 
 /// Where a path leads.
-#[derive(Debug, Drop)]
+#[derive(Drop)]
 pub enum Leads {
     /// To a directory.
     ToDirectory(Place),

@@ -7,7 +7,5 @@
 #![tactic(auto)]
 
 mod promise;
-#[cfg(test)]
-mod tests;
 
 pub use promise::Promise;

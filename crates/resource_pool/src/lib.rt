@@ -12,8 +12,6 @@ mod laws;
 mod lock;
 mod pool;
 mod sem;
-#[cfg(test)]
-mod tests;
 mod waiting;
 
 pub use laws::{counts_what_is_left, locked_in_turn, used_in_turn};

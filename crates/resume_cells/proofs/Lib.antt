@@ -11,5 +11,4 @@ pub mod Agreeing
 pub mod Closing
 pub mod Winners
 pub mod Seen
-pub mod Racing
 pub mod Rows

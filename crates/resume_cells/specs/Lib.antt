@@ -7,4 +7,3 @@ pub mod Rule
 pub mod Plays
 pub mod Outcomes
 pub mod Laws
-pub mod Racing

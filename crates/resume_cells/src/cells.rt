@@ -50,7 +50,7 @@ impl Model for Cells {
 }
 
 /// What came of a call that decides a wait.
-#[derive(Clone, Copy, Debug)]
+#[derive(Clone, Copy)]
 pub enum Decided {
     /// The wait is decided now, by this call.
     Won,

@@ -14,8 +14,6 @@ mod cells;
 mod laws;
 mod rule;
 mod seat;
-#[cfg(test)]
-mod tests;
 mod view;
 
 pub use cells::{Cells, Decided};

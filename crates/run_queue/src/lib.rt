@@ -6,8 +6,6 @@
 
 mod laws;
 mod ready;
-#[cfg(test)]
-mod tests;
 mod timers;
 
 pub use laws::timers_go_off_in_order;

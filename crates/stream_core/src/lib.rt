@@ -7,7 +7,5 @@
 #![tactic(auto)]
 
 mod stream;
-#[cfg(test)]
-mod tests;
 
 pub use stream::Stream;

@@ -5,7 +5,5 @@
 #![tactic(auto)]
 
 mod strikes;
-#[cfg(test)]
-mod tests;
 
 pub use strikes::{Strike, Strikes};

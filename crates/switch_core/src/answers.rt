@@ -8,7 +8,7 @@ use eio_value::Raised;
 pub struct Finished;
 
 /// Why a release handler was not registered. The handler comes back.
-#[derive(Debug, Drop)]
+#[derive(Drop)]
 pub enum ReleaseFault {
     /// The switch has finished.
     Finished(Handler),
@@ -16,7 +16,7 @@ pub enum ReleaseFault {
 }
 
 /// What a call of `close` finds to do.
-#[derive(Debug, Drop)]
+#[derive(Drop)]
 pub enum CloseStep {
     /// Fibers that are no daemons are attached: wait for the last of them.
     Wait,

@@ -12,7 +12,7 @@ use std::collections::BTreeMap;
 use std::marker::Model;
 
 /// Fibers by number, seen as their row in the order of attaching. No fiber stands in it twice.
-#[derive(Debug, Drop)]
+#[derive(Drop)]
 pub(crate) struct Fibers {
     /// When each was attached.
     times: BTreeMap<u32, u64>,

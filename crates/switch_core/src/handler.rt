@@ -6,7 +6,7 @@ use eio_value::Value;
 use std::marker::Model;
 
 /// The values of variables, in order, seen as their list.
-#[derive(Debug, Drop)]
+#[derive(Drop)]
 pub struct Variables {
     values: Vec<Value>,
 }
@@ -44,7 +44,7 @@ impl Variables {
 }
 
 /// A release handler: its block, by the node that it begins with, and the values of the variables when it was registered.
-#[derive(Debug, Drop)]
+#[derive(Drop)]
 pub struct Handler {
     pub node: u32,
     pub env: Variables,

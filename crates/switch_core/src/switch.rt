@@ -16,7 +16,7 @@ use std::marker::Model;
 use std::mem;
 
 /// Which fiber waits in `close`, and for whom.
-#[derive(Clone, Copy, Debug)]
+#[derive(Clone, Copy)]
 pub(crate) enum Closer {
     Nobody,
     ForFibers(u32),
@@ -24,7 +24,7 @@ pub(crate) enum Closer {
 }
 
 /// A switch, by the numbers of its context and its fibers.
-#[derive(Debug, Drop)]
+#[derive(Drop)]
 pub(crate) struct Switch {
     context: u32,
     /// The attached fibers that have not ended, the daemons apart.

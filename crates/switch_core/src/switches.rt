@@ -13,7 +13,7 @@ use std::alloc::Global;
 use std::marker::Model;
 
 /// The switches that were opened, by number, from 0.
-#[derive(Debug, Drop)]
+#[derive(Drop)]
 pub struct Switches {
     /// What their lists are allocated by.
     alloc: Global,

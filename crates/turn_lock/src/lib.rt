@@ -20,6 +20,3 @@ mod view;
 pub use crossing::crosses_threads;
 pub use kept::{Kept, Names};
 pub use turn::{Pass, PassOf, Turn};
-
-#[cfg(test)]
-mod tests;

@@ -12,8 +12,6 @@
 mod list;
 mod mem_wake;
 mod queued;
-#[cfg(test)]
-mod tests;
 
 pub use list::WaitList;
 pub use mem_wake::{MemWake, Told};

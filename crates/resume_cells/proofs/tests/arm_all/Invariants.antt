@@ -1,6 +1,0 @@
-use Rattle.std.proofs.Common.{◌≡◌}
-use Rattle.resume_cells.proofs.Racing.{AreArmed}
-use Rattle.resume_cells.proofs.tests.arm_all.Given as goal
-
-abbrev pub invariant-loop-cell : goal.invariant-loop-cell
-invariant-loop-cell l = (l.seat.table ≡ l.initial.seat.table) × (l.seat.number ≡ 0) × (l.seat.each ≡ 1000) × AreArmed l.seat.told l.cell

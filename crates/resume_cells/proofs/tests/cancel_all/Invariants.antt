@@ -1,6 +1,0 @@
-use Rattle.std.proofs.Common.{◌≡◌}
-use Rattle.resume_cells.specs.Racing.{AreWaiting}
-use Rattle.resume_cells.proofs.tests.cancel_all.Given as goal
-
-abbrev pub invariant-loop-cell : goal.invariant-loop-cell
-invariant-loop-cell l = (l.seat.table ≡ l.initial.seat.table) × AreWaiting 1000 l.seat l.cell
