@@ -101,6 +101,7 @@ fn context(groups: &mut Groups) -> Result<u32, NoMemory>
 #[test]
 fn a_group_has_its_context(rt: HostRuntime) -> Result<(), Fail> {
     let mut groups = Groups::new(rt.alloc());
+    assert!(rt; groups.is_empty());
     assert_eq!(rt; context(&mut groups)?, 4);
     Ok(())
 }

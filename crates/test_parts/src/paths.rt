@@ -141,15 +141,22 @@ fn is_opened(given: Result<Cap, CapFault>, wanted: Wanted) -> bool {
     }
 }
 
+/// Whether these are names of one byte each.
+fn are_letters(names: &[Vec<u8>], letters: &[u8]) -> bool {
+    if names.len() != letters.len() {
+        return false;
+    }
+    for place in 0..names.len() {
+        if names[place].as_slice() != [letters[place]].as_slice() {
+            return false;
+        }
+    }
+    true
+}
+
 fn are_names(given: Result<Vec<Vec<u8>>, CapFault>, wanted: Wanted) -> bool {
     match (given, wanted) {
-        (Ok(names), Names(text)) => {
-            names.len() == text.len()
-                && names
-                    .iter()
-                    .zip(text.as_bytes())
-                    .all(|(name, byte)| name.as_slice() == [*byte].as_slice())
-        }
+        (Ok(names), Names(text)) => are_letters(names.as_slice(), text.as_bytes()),
         (Ok(_), _) => false,
         (Err(fault), wanted) => is_fault(fault, wanted),
     }

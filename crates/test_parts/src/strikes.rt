@@ -27,7 +27,10 @@ fn cancel_one(
 
 /// Who makes a strike, and on whom.
 fn told(strike: Option<Strike>) -> Option<(u32, u32)> {
-    strike.map(|strike| (strike.maker, strike.fiber))
+    match strike {
+        Some(strike) => Some((strike.maker, strike.fiber)),
+        None => None,
+    }
 }
 
 #[test]

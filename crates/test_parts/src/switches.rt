@@ -74,11 +74,12 @@ fn a_daemon_is_cancelled(rt: HostRuntime) -> Result<(), Fail> {
 }
 
 /// The node and the first variable of a handler.
-fn told(handler: Handler) -> (u32, Option<Value>) {
+fn told(next: Option<Handler>) -> Option<(u32, Option<Value>)> {
+    let handler = next?;
     let first = handler.env.as_slice().first().copied();
     match (first, handler.env.into_values().pop()) {
-        (Some(first), Some(last)) if first == last => (handler.node, Some(first)),
-        _ => (handler.node, None),
+        (Some(first), Some(last)) if first == last => Some((handler.node, Some(first))),
+        _ => Some((handler.node, None)),
     }
 }
 
@@ -106,7 +107,7 @@ fn close_over_a_handler(
 fn a_handler_runs(rt: HostRuntime) -> Result<(), Fail> {
     let mut switches = Switches::new(rt.alloc());
     let next = close_over_a_handler(&mut switches, handler(rt.alloc(), 5)?)?;
-    assert_eq!(rt; next.map(told), Some((5, Some(Value::Ctx(5)))));
+    assert_eq!(rt; told(next), Some((5, Some(Value::Ctx(5)))));
     Ok(())
 }
 

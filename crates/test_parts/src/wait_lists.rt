@@ -1,6 +1,7 @@
 //! Lists of waiting fibers, and the `Wake` in memory.
 
-ghost use Rattle.std.specs.Prelude.{◌≡◌};
+ghost use Rattle.std.specs.Prelude.{◌≡◌, None};
+ghost use Rattle.wait_list.specs.Told.{sent_of};
 
 use crate::waits::{DEAD, all_alive, waiter, waking};
 use eio_value::{Answer, Job, NoMemory, Outcome, Value, Wake};
@@ -49,7 +50,7 @@ fn the_first_that_is_alive_is_woken(rt: HostRuntime) -> Result<(), Fail> {
 /// Whether the fiber of cell 0 waits, unless its context is off, and is told the outcome behind the others.
 fn is_told(list: &mut WaitList, wake: &mut MemWake) -> bool
     requires cells { list.old.cells ≡ 3 }
-    requires quiet { MemWake.sent wake.old ≡ None }
+    requires quiet { sent_of wake.old.told ≡ None }
 {
     let off = matches!(list.wait(fiber(0, 13), true), Answer::Off);
     let waits = matches!(list.wait(fiber(0, 13), false), Answer::Waits);
@@ -67,16 +68,21 @@ fn the_woken_fiber_is_answered(rt: HostRuntime) -> Result<(), Fail> {
     Ok(())
 }
 
-/// The stamps of the fibers that leave by these numbers.
-fn taken(list: &mut WaitList, numbers: [u64; 3]) -> [Option<u64>; 3] {
-    numbers.map(|number| list.take_numbered(number).map(|queued| queued.who.armed))
+/// The stamp of the wait of the fiber that leaves by this number.
+fn taken(list: &mut WaitList, number: u64) -> Option<u64> {
+    match list.take_numbered(number) {
+        Some(queued) => Some(queued.who.armed),
+        None => None,
+    }
 }
 
 #[test]
 fn the_first_with_a_number_leaves(rt: HostRuntime) -> Result<(), Fail> {
     let mut list = WaitList::new(rt.alloc(), 3)?;
     enter(&mut list);
-    assert_eq!(rt; taken(&mut list, [10, 12, 12]), [None, Some(12), None]);
+    for (number, wanted) in [(10, None), (12, Some(12)), (12, None)] {
+        assert_eq!(rt; taken(&mut list, number), wanted);
+    }
     Ok(())
 }
 

@@ -1,0 +1,63 @@
+//! The ready list and the timers.
+
+ghost use Rattle.std.specs.Prelude.{◌≡◌};
+ghost use Rattle.row_model.specs.Timers as list;
+
+use eio_value::Full;
+use run_queue::{Ready, Timers};
+use std::test::Fail;
+
+/// Whether each of three fibers goes in, the second at the head.
+fn pushed(ready: &mut Ready) -> [bool; 3] {
+    [
+        ready.push_back(7).is_ok(),
+        ready.push_head(4).is_ok(),
+        ready.push_back(9).is_ok(),
+    ]
+}
+
+/// The fiber that moves next, and whether none is left then.
+fn popped(ready: &mut Ready) -> (Option<u32>, bool) {
+    (ready.pop(), ready.is_empty())
+}
+
+#[test]
+fn fibers_move_in_order(rt: HostRuntime) -> Result<(), Fail> {
+    let mut ready = Ready::new(rt.alloc(), 2)?;
+    assert_eq!(rt; pushed(&mut ready), [true, true, false]);
+    for wanted in [(Some(4), false), (Some(7), true), (None, true)] {
+        assert_eq!(rt; popped(&mut ready), wanted);
+    }
+    Ok(())
+}
+
+/// Three fibers sleep; whether a fourth does.
+fn slept(timers: &mut Timers) -> Result<bool, Full>
+    requires { timers.old.timers ≡ list.no_timers }
+{
+    timers.add(30, 1)?;
+    timers.add(10, 2)?;
+    timers.add(10, 3)?;
+    Ok(timers.add(5, 4).is_ok())
+}
+
+/// The earliest due time, and the fiber that is due at this one.
+fn gone_off(timers: &mut Timers, now: i64) -> (Option<i64>, Option<u32>) {
+    (timers.earliest(), timers.pop_due(now))
+}
+
+#[test]
+fn timers_go_off_in_order(rt: HostRuntime) -> Result<(), Fail> {
+    let mut timers = Timers::new(rt.alloc(), 3)?;
+    assert_eq!(rt; slept(&mut timers)?, false);
+    for (now, earliest, fiber) in [
+        (9, Some(10), None),
+        (20, Some(10), Some(2)),
+        (20, Some(10), Some(3)),
+        (20, Some(30), None),
+    ] {
+        assert_eq!(rt; gone_off(&mut timers, now), (earliest, fiber));
+    }
+    assert_eq!(rt; [timers.remove(1), timers.remove(1)], [true, false]);
+    Ok(())
+}
