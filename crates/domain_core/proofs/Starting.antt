@@ -109,15 +109,13 @@ module _ (nodes : List Node) (texts : List (List ℕ)) (number : ℕ) (block : B
   }
 
 module _ (script : Script) (runnable : IsRunnable script) (body : ℕ) (below : body < length script.bodies) (budget : ℕ) (mocked : Bool)
-    (node : ℕ) (begins : slice_get script.bodies body ≡ Some (block_at (nodes_of script) node))
-    (frames : Kept) (position : position_of (nodes_of script) frames ≡ begun (block_at (nodes_of script) node) []) (placed : ArePlaced (nodes_of script) frames.items) where
+    (frames : Kept) (position : position_of (nodes_of script) frames ≡ begun (body_of script body) []) (placed : ArePlaced (nodes_of script) frames.items) where
   pub starts : (it : Beginning) → it ≡ beginning body frames → Starts script body budget mocked (started body budget mocked it)
-  starts it same = (
-      let block : block_at (nodes_of script) node ≡ body_of script body = ap (λ (o : Option Block). unwrap_or o (Begins 0 Done)) (sym begins) in
+  starts it same =
       subst (λ (b : Beginning). Starts script body budget mocked (started body budget mocked b)) (sym same)
       (record {
         stands = record {
-          mirrors = starts_mirrors (nodes_of script) (opening_texts script) body (body_of script body) frames (position ∙ ap (λ (b : Block). begun b []) block) placed budget mocked;
+          mirrors = starts_mirrors (nodes_of script) (opening_texts script) body (body_of script body) frames position placed budget mocked;
           well = λ going. opens_well script body runnable below;
         };
         number = refl;
@@ -125,4 +123,8 @@ module _ (script : Script) (runnable : IsRunnable script) (body : ℕ) (below : 
         mocked = refl;
         stamp = refl;
         lines = refl;
-      }))
+      })
+
+-- the block of a body is that of its first node
+pub body_block : (script : Script) (body node : ℕ) → slice_get script.bodies body ≡ Some (block_at (nodes_of script) node) → block_at (nodes_of script) node ≡ body_of script body
+body_block script body node begins = ap (λ (o : Option Block). unwrap_or o (Begins 0 Done)) (sym begins)

@@ -4,6 +4,7 @@ pub mod KeptCode
 pub mod Mirrors
 pub mod Turns
 pub mod Objects
+pub mod Opening
 pub mod Answering
 pub mod Conditions
 pub mod Stepping

@@ -12,11 +12,9 @@ ghost use Rattle.well_laws.specs.WellStates.{IsRunnable};
 ghost use Rattle.domain_core.specs.Mirrors.{Mirrors};
 ghost use Rattle.domain_core.specs.Turns.{Starts};
 
-use crate::fibers::{Fibers, MOST_FIBERS};
-use crate::standing::Role;
+use crate::fibers::{BODY_FIBER, Fibers, MOST_FIBERS};
 use cancel_tree::Contexts;
 use eio_value::{NoMemory, Outcome};
-use fiber_step::{Fiber as Frames, Variables, first_node};
 use group_core::Groups;
 use run_queue::Ready;
 use script_lang::Script;
@@ -99,28 +97,23 @@ impl Domain {
         requires runnable { IsRunnable script.now }
         ensures { IfOk result (Starts script.now body budget mocked) }
     {
-        let mut fibers = Fibers::new(alloc)?;
         let mut ready = Ready::new(alloc, MOST_FIBERS)?;
+        if let Err(_) = ready.push_back(BODY_FIBER) {
+            unreachable!()
+        }
+        let owed = Strikes::new(alloc)?;
         let mut contexts = Contexts::new(alloc)?;
-        let frames = Frames::new(
-            alloc,
-            first_node(script, body),
-            Variables::new(Vec::new(alloc)),
-        )?;
         let Ok(root) = contexts.root() else {
             unreachable!()
         };
-        let main = fibers.add(root, Role::Body, frames)?;
-        if let Err(_) = ready.push_back(main) {
-            unreachable!()
-        }
+        let fibers = Fibers::of_body(alloc, script, body, root)?;
         Ok(Domain {
             alloc,
             number: body,
             fibers,
             came: None,
             ready,
-            owed: Strikes::new(alloc)?,
+            owed,
             contexts,
             switches: Switches::new(alloc),
             groups: Groups::new(alloc),

@@ -13,6 +13,7 @@ ghost use Rattle.machine_model.specs.Domain as model;
 ghost use Rattle.slab.specs.Slab.{ContainsKey};
 ghost use Rattle.domain_core.specs.Keeping.{kept_at, new_fiber, changed_at};
 ghost use Rattle.domain_core.specs.Keyed.{HasKey, IsWithout, role_of, standing_of, plain_standing, fiber_of, thrown_under, raised_of};
+ghost use Rattle.domain_core.specs.Opening.{HasBody};
 ghost use Rattle.domain_core.specs.Stepping.{IsPlacedAt, Enters, Handles, Settles};
 ghost use Rattle.fiber_step.specs.Having.{HasStatements};
 ghost use Rattle.fiber_step.specs.Settling.{HasTextsOfOutcome};
@@ -23,7 +24,7 @@ ghost use Rattle.script_forms.specs.declared.node.Node.{Node as Begun};
 use crate::fiber::Fiber;
 use crate::standing::{Next, Role, Standing};
 use eio_value::{NoMemory, Outcome, Raised, Texts, Value};
-use fiber_step::{Ask, Fiber as Frames, Variables};
+use fiber_step::{Ask, Fiber as Frames, Variables, first_node};
 use script_lang::Script;
 use slab::Slab;
 use std::alloc::Global;
@@ -31,6 +32,9 @@ use std::marker::Model;
 
 /// The most fibers that may live.
 pub(crate) const MOST_FIBERS: usize = 1024;
+
+/// The number of the fiber that runs the body, which is made first.
+pub(crate) const BODY_FIBER: u32 = 0;
 
 /// All fibers that were made.
 #[derive(Drop)]
@@ -69,6 +73,29 @@ impl Fibers {
             kept: Slab::with_capacity(alloc, MOST_FIBERS)?,
             thrown: Slab::new(alloc),
         })
+    }
+
+    /// The fiber of a body alone, which is about to run that in this context.
+    ///
+    /// # Errors
+    /// [`NoMemory`] where memory runs out.
+    pub(crate) fn of_body(
+        alloc: Global,
+        script: &Script,
+        body: u8,
+        context: u32,
+    ) -> Result<Fibers, NoMemory>
+        requires { body < length script.now.bodies }
+        ensures { IfOk result (HasBody script.now body context) }
+    {
+        let frames = Frames::new(
+            alloc,
+            first_node(script, body),
+            Variables::new(Vec::new(alloc)),
+        )?;
+        let mut fibers = Fibers::new(alloc)?;
+        fibers.add(context, Role::Body, frames)?;
+        Ok(fibers)
     }
 
     /// How many haven't ended.
