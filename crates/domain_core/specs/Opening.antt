@@ -2,7 +2,7 @@
 use Rattle.std.specs.Prelude.{◌≡◌, ℕ, List, [], ◌∷◌, Option, Some}
 use Rattle.fiber_step.specs.Kept.{Kept, position_of}
 use Rattle.fiber_step.specs.Placing.{ArePlaced}
-use Rattle.script_lang.specs.Flat.{nodes_of}
+use Rattle.script_forms.specs.Flat.{nodes_of}
 use Rattle.script_model.specs.Scripts.{Script}
 use Rattle.step_model.specs.Replies.{begun}
 use Rattle.machine_model.specs.Domain.{OfBody}

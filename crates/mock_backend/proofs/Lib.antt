@@ -7,4 +7,5 @@ pub mod Answered
 pub mod EndCauses
 pub mod BodyTexts
 pub mod Whole
+pub mod TurnsMove
 mod DueRows

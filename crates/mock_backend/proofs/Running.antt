@@ -26,7 +26,6 @@ use Rattle.machine_model.specs.Runs.{Fits, Noted}
 use Rattle.machine_model.specs.Trace.{run, trace, written_by, last_after}
 use Rattle.fiber_step.specs.Throwing.{IsGrown}
 use Rattle.domain_core.specs.declared.turn.Turn.TheVariants as turn
-use Rattle.domain_core.specs.Objects.{AreFor}
 use Rattle.domain_core.specs.Keeping.{KeptDomain}
 use Rattle.domain_core.specs.Turns.{StandsFor, Starts, Came, MovesTo, Turns}
 use Rattle.domain_laws.specs.Laws.{body_of}
@@ -38,18 +37,11 @@ use Rattle.mock_backend.specs.declared.fault.RunFault.{RunFault}
 use Rattle.mock_backend.specs.declared.local.Local.{Local}
 use Rattle.mock_backend.specs.Faults.{HasRunCause, RoseAtFault, WritesText}
 use Rattle.mock_backend.specs.declared.fault.RunFault.TheVariants as fault
-use Rattle.mock_backend.specs.Objects.{Calls, Strikes, Asks, Receives, Learns, one_has_waiter, terms_of, is_open_in}
+use Rattle.mock_backend.specs.Objects.{Calls, Strikes, Asks, Receives, Learns}
+use Rattle.mock_backend.specs.Turning.{IsMoved}
 use Rattle.mock_backend.proofs.Runs.{inner_moved, inner_line, inner_next, inner_stamp, own_move_is, idle_move_is, halted_move_is, moves_none, moves_zero, moves_some}
 
 -- ## The next move
-
--- the domain's line is that of the next move, and stands for the domain then
-pub record IsMoved (script : Script) (m : Mock) (line : Line) (texts : List (List ℕ)) (kept : KeptDomain) : Type 0 where
-  pub moved : Moved
-  pub is : move script m ≡ Some moved
-  pub told : moved.line ≡ line
-  pub stands : StandsFor script texts kept moved.next.local
-  pub stamp : moved.next.local.stamp ≡ m.local.stamp + 1
 
 some_none : {A : Type 0} (x : A) → Some x ≡ None → ⊥
 some_none x e = cc
@@ -162,16 +154,6 @@ part_opens script steps old texts kept table starts = (
       stamp = starts.stamp;
       budget = starts.budget;
     })
-
--- the objects are those of a domain that has just started
-pub objects_fit : (script : Script) (steps : ℕ) (kept : KeptDomain) (l : Local) → Starts script 0 steps true kept → l.declared.items ≡ [] → AreFor kept true (terms_of l) 0 (is_open_in l)
-objects_fit script steps kept l starts none = record {
-  mocked = sym starts.mocked;
-  domain = sym starts.number;
-  seen = omega arith;
-  waits = λ who. ap (λ items. one_has_waiter items who) none;
-  submits = refl;
-}
 
 -- a table that has grown has the texts of the script still
 pub grown_has : (n : ℕ) (old new : List (List ℕ)) → IsGrown old new → n ≤ length old → n ≤ length new

@@ -4,3 +4,4 @@ pub mod Faults
 pub mod Objects
 pub mod Scripts
 pub mod Today
+pub mod Turning

@@ -10,6 +10,8 @@ use Rattle.eio_value.specs.declared.mock_call.Extra.{Extra}
 use Rattle.eio_value.specs.declared.mock_call.MockCall.{MockCall}
 use Rattle.eio_value.specs.Things.{ThingKind, LeavesOutside}
 use Rattle.eio_value.specs.Waits.{ObjectKind, Terms}
+use Rattle.domain_core.specs.Keeping.{KeptDomain}
+use Rattle.domain_core.specs.Objects.{AreFor}
 use Rattle.mock_backend.specs.declared.local.Declared.{Declared}
 use Rattle.mock_backend.specs.declared.local.Local.{Local}
 
@@ -38,11 +40,19 @@ thing_if (Some it) = Some (thing_of it)
 abbrev pub terms_of : Local → Terms
 terms_of l = record { domain = 0; cells = 1024; kinds = map kind_of l.declared.items; submits = []; failures = None }
 
+-- how many texts they know of
+abbrev pub texts_in : Local → ℕ
+texts_in l = l.texts
+
 abbrev pub is_open_in : Local → Waiter → Bool
 is_open_in l who = one_has_waiter l.declared.items who
 
 abbrev pub thing_in : Local → (number : ℕ) → Option ThingKind
 thing_in l number = thing_if (slice_get l.declared.items number)
+
+-- they are what a turn of the mocked domain 0 is given, whatever moves it has made
+abbrev pub AreForMocked : Local → Type 0
+AreForMocked l = (kept : KeptDomain) → kept.number ≡ 0 → kept.mocked ≡ true → AreFor kept true (terms_of l) 0 (is_open_in l)
 
 -- ## What calls do
 

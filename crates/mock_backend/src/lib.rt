@@ -6,6 +6,7 @@
 #![tactic(auto)]
 
 mod fault;
+mod laws;
 mod local;
 mod mock;
 mod respond;
@@ -15,5 +16,6 @@ mod script;
 mod tests;
 mod trace;
 
+pub use laws::turns_are_moves;
 pub use local::{Declared, Local};
 pub use mock::mock_run;

@@ -5,7 +5,7 @@
 //! is a variant of [`Declared`].
 
 ghost use Rattle.std.specs.Prelude.{◌≡◌, false, true, []};
-ghost use Rattle.mock_backend.specs.Objects.{terms_of, is_open_in, thing_in, outside_stays, Calls, Strikes, Asks, Receives, Learns};
+ghost use Rattle.mock_backend.specs.Objects.{terms_of, texts_in, is_open_in, thing_in, outside_stays, AreForMocked, Calls, Strikes, Asks, Receives, Learns};
 
 use eio_value::{
     Answered, Call, Extra, Extras, Message, MockCall, NoMemory, Objects, Struck, Texts, Waiter,
@@ -26,10 +26,12 @@ pub struct Local {
 }
 
 impl Local {
-    /// The objects of a script that declares nothing, with so many texts.
-    pub(crate) fn new(alloc: Global, texts: usize) -> Local
-        ensures declared { result.declared.items ≡ [] }
-        ensures texts { result.texts ≡ texts }
+    /// The objects of a script that declares nothing, with so many texts: those with which [`Domain::turn`](domain_core::Domain::turn)
+    /// may be called at the mocked domain 0.
+    pub fn make(alloc: Global, texts: usize) -> Local
+        ensures declares { (terms_of result).kinds ≡ [] }
+        ensures texts { texts_in result ≡ texts }
+        ensures fits { AreForMocked result }
     {
         Local {
             declared: Vec::new(alloc),
@@ -47,7 +49,7 @@ impl Objects for Local {
 
     ghost terms = { terms_of };
 
-    ghost texts = { λ l. l.texts };
+    ghost texts = { texts_in };
 
     ghost seen = { λ _. 0 };
 

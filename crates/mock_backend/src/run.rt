@@ -2,17 +2,19 @@
 //!
 //! The loop keeps: what was written is the trace of the moves made so far, and the moves that are left lead from the state that the domain
 //! stands for where the whole run leads. [`run_script`] says what was written, how the run ended, and why.
-ghost use Rattle.std.specs.Prelude.{◌≡◌, ◌<◌, ◌≤◌, ◌↔◌, ℕ, List, IfOk, IfSome, OnOk};
+ghost use Rattle.std.specs.Prelude.{◌≡◌, ◌<◌, ◌≤◌, ◌↔◌, ℕ, List, true, length, IfOk, IfSome, OnOk};
 ghost use Rattle.fiber_step.specs.Settling.{HasTextsOfOutcome};
 ghost use Rattle.machine_model.specs.Answers.{ran};
 ghost use Rattle.machine_model.specs.Mock.{Mock};
 ghost use Rattle.machine_model.specs.Trace as model;
 ghost use Rattle.machine_model.specs.Trace.{body_end, ending_in, run};
+ghost use Rattle.script_model.specs.Opening.{opening_texts};
 ghost use Rattle.script_model.specs.Scripts.{Script as Read};
-ghost use Rattle.domain_core.specs.Turns.{StandsFor};
+ghost use Rattle.domain_core.specs.Turns.{StandsFor, Starts};
 ghost use Rattle.well_laws.specs.WellStates.{IsRunnable};
 ghost use Rattle.mock_backend.specs.Causes.{EndsRaised, IsStuck};
 ghost use Rattle.mock_backend.specs.Faults.{HasRunCause, WritesText};
+ghost use Rattle.mock_backend.specs.Objects.{AreForMocked};
 ghost use Rattle.mock_backend.specs.Scripts.{IsOfRun};
 
 use crate::fault::RunFault;
@@ -87,6 +89,42 @@ fn end_run<K: Sink>(
     Ok(ending)
 }
 
+/// Runs a domain that has just started for at most `steps` moves, writes their trace and the line behind it, and returns how it ended.
+///
+/// # Errors
+/// `WriteFault` where the sink failed, `NoMemory` where memory runs out; a front of the text was written.
+fn run_domain<K: Sink>(
+    script: &Script,
+    domain: &mut Domain,
+    texts: &mut Texts,
+    objects: &mut Local,
+    sink: &mut K,
+    buffer: &mut Vec<u8>,
+    steps: u32,
+) -> Result<Ending, RunFault>
+    requires most { steps ≤ 1000000 }
+    requires runnable { IsRunnable script.now }
+    requires starts { Starts script.now 0 steps true domain.old }
+    requires texts { texts.old ≡ opening_texts script.now }
+    requires own { length script.now.texts ≤ length texts.old }
+    requires objects { AreForMocked objects.old }
+    ensures ending { IfOk result (λ ending. ending ≡ (ran script.now steps).ending) }
+    ensures text { WritesText (K.held sink.old) (K.held sink.new) (ran script.now steps).text result }
+    ensures raised { IfOk result (λ ending. (ending ≡ Ending.Raised) ↔ EndsRaised (run script.now steps).last.local) }
+    ensures deadlock { IfOk result (λ ending. (ending ≡ Ending.Deadlock) ↔ IsStuck (run script.now steps).last.local) }
+    ensures cause { HasRunCause (K.faults sink.old) (K.faults sink.new) result }
+{
+    'running: for made in 0..steps {
+        match domain.turn(script, texts, objects)? {
+            Turn::Moved(line) => write_line(sink, texts, script.names(), &line, buffer)?,
+            Turn::Idle | Turn::Spent | Turn::Halted => {
+                return end_run(domain, texts, sink, buffer);
+            }
+        }
+    }
+    end_run(domain, texts, sink, buffer)
+}
+
 /// Runs a script for at most `steps` moves, writes its trace and the line behind it, and returns how it ended.
 ///
 /// It ends with an exception, or in a deadlock, exactly where nothing is left to be done and no limit was met, and main has ended with an
@@ -111,15 +149,15 @@ pub(crate) fn run_script<K: Sink>(
 {
     let mut texts = script.texts_of(alloc)?;
     let mut domain = Domain::start(alloc, script, 0, steps, true)?;
-    let mut objects = Local::new(alloc, texts.len());
+    let mut objects = Local::make(alloc, texts.len());
     let mut buffer = Vec::new(alloc);
-    'running: for made in 0..steps {
-        match domain.turn(script, &mut texts, &mut objects)? {
-            Turn::Moved(line) => write_line(sink, &texts, script.names(), &line, &mut buffer)?,
-            Turn::Idle | Turn::Spent | Turn::Halted => {
-                return end_run(&domain, &texts, sink, &mut buffer);
-            }
-        }
-    }
-    end_run(&domain, &texts, sink, &mut buffer)
+    run_domain(
+        script,
+        &mut domain,
+        &mut texts,
+        &mut objects,
+        sink,
+        &mut buffer,
+        steps,
+    )
 }

@@ -1,5 +1,5 @@
 use Rattle.std.proofs.Common.{◌∙◌, ap, List, [], ◌∷◌, ◌++◌, length, Option, Some}
-use Rattle.script_lang.specs.Flat.{nodes_of}
+use Rattle.script_forms.specs.Flat.{nodes_of}
 use Rattle.script_lang.specs.Standing.{block_at}
 use Rattle.script_model.specs.Syntax.{Block}
 use Rattle.step_model.specs.Replies.{begun}

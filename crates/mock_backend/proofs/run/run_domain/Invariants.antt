@@ -2,7 +2,7 @@ use Rattle.std.proofs.Common.{◌≤◌, true, length}
 use Rattle.domain_core.specs.Objects.{AreFor}
 use Rattle.mock_backend.specs.Objects.{terms_of, is_open_in}
 use Rattle.mock_backend.proofs.Running.{IsPart}
-use Rattle.mock_backend.proofs.run.run_script.Given as goal
+use Rattle.mock_backend.proofs.run.run_domain.Given as goal
 
 abbrev pub invariant-running : goal.invariant-running
 invariant-running g l = record {
