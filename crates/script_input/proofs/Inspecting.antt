@@ -1,5 +1,6 @@
 -- What `check` and `print` answer, by the script of the input or its refusal.
 use Rattle.std.proofs.Common.{◌≡◌, ℕ, List, [], false, codes, Result, Ok, Err, refl, ap, sym, ◌∙◌}
+use Rattle.std.specs.Prelude.{IfOk, OnOk, IsOk}
 use Rattle.script_model.specs.Faults as model
 use Rattle.script_model.specs.Trees.{Tree}
 use Rattle.script_model.specs.Results.{◌>>=◌}
@@ -8,6 +9,7 @@ use Rattle.script_model.specs.Refusals.{TooLong, NoTree, NoScript, MockOnly, Dom
 use Rattle.script_model.specs.Refusals as refusals
 use Rattle.script_model.specs.Scripts.{Script, script_of}
 use Rattle.script_model.specs.Inputs.{Checked, checked, checked_by, printed, printed_by, refused_by, input_script}
+use Rattle.script_input.specs.declared.fault.InputFault.{InputFault}
 use Rattle.script_input.specs.declared.inspection.Inspection.{Inspection}
 use Rattle.script_input.specs.declared.inspection.Inspection.TheVariants as inspection
 use Rattle.script_input.specs.declared.refusal.Refusal.{Refusal}
@@ -48,10 +50,19 @@ check_writes bytes script text is same =
     let made : List ℕ → Checked = λ t. record { text = t; is_refused = false } in
     checked_is bytes ∙ (ap (checked_by (codes "ok\n")) is ∙ sym (ap made same))
 
-pub print_writes : (bytes : List ℕ) (tree : Tree) (script : Script) (text : List ℕ) → input_tree bytes ≡ Ok tree → script_of tree ≡ Ok script → text ≡ document tree → printed bytes ≡ record { text = text; is_refused = false }
+print_writes : (bytes : List ℕ) (tree : Tree) (script : Script) (text : List ℕ) → input_tree bytes ≡ Ok tree → script_of tree ≡ Ok script → text ≡ document tree → printed bytes ≡ record { text = text; is_refused = false }
 print_writes bytes tree script text read is same =
     let made : List ℕ → Checked = λ t. record { text = t; is_refused = false } in
     printed_is bytes ∙ (ap printed_by read ∙ (ap (λ r. checked_by (document tree) (or_refused NoScript r)) is ∙ sym (ap made same)))
+
+found : {A E : Type 0} (read : Result A E) → IsOk read → (made : A) × (read ≡ Ok made)
+found (Ok made) is = (made, refl)
+found (Err e) is = cc
+
+pub tree_printed : {T : Type 0} (bytes : List ℕ) (tree : Tree) (result : Result T InputFault) (items : T → List ℕ) → input_tree bytes ≡ Ok tree
+    → IfOk result (λ text. items text ≡ document tree) → OnOk result (IsOk (script_of tree)) → IfOk result (λ text. printed bytes ≡ record { text = items text; is_refused = false })
+tree_printed bytes tree (Ok text) items read same made = let script = found (script_of tree) made in print_writes bytes tree script.0 (items text) read script.1 same
+tree_printed bytes tree (Err e) items read same made = tt
 
 -- of an input that is refused
 check_refuses : (bytes : List ℕ) (why : refusals.Refusal) → input_script bytes ≡ Err why → checked bytes ≡ refused_by why

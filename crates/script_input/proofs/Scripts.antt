@@ -23,7 +23,7 @@ unfolding input_script script_by
 script_is bytes = refl
 
 -- of an input that spells a tree
-pub of_tree : (bytes : List ℕ) (tree : Tree) → input_tree bytes ≡ Ok tree → input_script bytes ≡ or_refused NoScript (script_of tree)
+of_tree : (bytes : List ℕ) (tree : Tree) → input_tree bytes ≡ Ok tree → input_script bytes ≡ or_refused NoScript (script_of tree)
 unfolding script_by
 of_tree bytes tree read = script_is bytes ∙ ap script_by read
 
@@ -42,14 +42,22 @@ pub no_tree : {T : Type 0} (bytes : List ℕ) (result : Result T InputFault) (ma
 no_tree {T} bytes result made fault is same refused =
     subst (λ (r : Result T InputFault). IfErr r (λ f. Refuses f (input_script bytes))) (sym (is ∙ ap Err same)) (refused_both bytes fault refused)
 
-refused_by : (bytes : List ℕ) (tree : Tree) (fault : ScriptFault) → input_script bytes ≡ or_refused NoScript (script_of tree) → Fails fault (script_of tree) → Refuses (of_script_fault fault) (input_script bytes)
-refused_by bytes tree fault.NoMemory is fails = tt
-refused_by bytes tree (fault.Shape at) is fails = record { why = NoScript (model.Shape at); refused = is ∙ ap (or_refused NoScript) fails; same = refl }
-refused_by bytes tree (fault.Name at) is fails = record { why = NoScript (model.Name at); refused = is ∙ ap (or_refused NoScript) fails; same = refl }
-refused_by bytes tree (fault.Twice at) is fails = record { why = NoScript (model.Twice at); refused = is ∙ ap (or_refused NoScript) fails; same = refl }
-refused_by bytes tree (fault.Size at) is fails = record { why = NoScript (model.Size at); refused = is ∙ ap (or_refused NoScript) fails; same = refl }
+refused_by : (tree : Tree) (fault : ScriptFault) → Fails fault (script_of tree) → Refuses (of_script_fault fault) (or_refused NoScript (script_of tree))
+refused_by tree fault.NoMemory fails = tt
+refused_by tree (fault.Shape at) fails = record { why = NoScript (model.Shape at); refused = ap (or_refused NoScript) fails; same = refl }
+refused_by tree (fault.Name at) fails = record { why = NoScript (model.Name at); refused = ap (or_refused NoScript) fails; same = refl }
+refused_by tree (fault.Twice at) fails = record { why = NoScript (model.Twice at); refused = ap (or_refused NoScript) fails; same = refl }
+refused_by tree (fault.Size at) fails = record { why = NoScript (model.Size at); refused = ap (or_refused NoScript) fails; same = refl }
 
 -- a tree that is no script
-pub script_fails : {T : Type 0} (bytes : List ℕ) (tree : Tree) (result : Result T InputFault) (made : InputFault) (fault : ScriptFault) → result ≡ Err made → made ≡ of_script_fault fault → input_tree bytes ≡ Ok tree → Fails fault (script_of tree) → IfErr result (λ f. Refuses f (input_script bytes))
-script_fails {T} bytes tree result made fault is made_is read fails =
-    subst (λ (r : Result T InputFault). IfErr r (λ f. Refuses f (input_script bytes))) (sym (is ∙ ap Err made_is)) (refused_by bytes tree fault (of_tree bytes tree read) fails)
+pub tree_fails : {T : Type 0} (tree : Tree) (result : Result T InputFault) (made : InputFault) (fault : ScriptFault) → result ≡ Err made → made ≡ of_script_fault fault → Fails fault (script_of tree) → IfErr result (λ f. Refuses f (or_refused NoScript (script_of tree)))
+tree_fails {T} tree result made fault is made_is fails =
+    subst (λ (r : Result T InputFault). IfErr r (λ f. Refuses f (or_refused NoScript (script_of tree)))) (sym (is ∙ ap Err made_is)) (refused_by tree fault fails)
+
+pub tree_still_fails : {T : Type 0} (tree : Tree) (result : Result T InputFault) (made fault : InputFault) → result ≡ Err made → made ≡ fault → Refuses fault (or_refused NoScript (script_of tree)) → IfErr result (λ f. Refuses f (or_refused NoScript (script_of tree)))
+tree_still_fails {T} tree result made fault is same refused =
+    subst (λ (r : Result T InputFault). IfErr r (λ f. Refuses f (or_refused NoScript (script_of tree)))) (sym (is ∙ ap Err same)) refused
+
+-- of an input that spells one
+pub script_fails : {T : Type 0} (bytes : List ℕ) (tree : Tree) (result : Result T InputFault) → input_tree bytes ≡ Ok tree → IfErr result (λ f. Refuses f (or_refused NoScript (script_of tree))) → IfErr result (λ f. Refuses f (input_script bytes))
+script_fails {T} bytes tree result read fails = subst (λ (r : Result Script Refusal). IfErr result (λ f. Refuses f r)) (sym (of_tree bytes tree read)) fails

@@ -1,7 +1,9 @@
 //! The tree and the script of an input. Of several refusals the first is answered: the size of the input, its tree, its script.
 ghost use Rattle.std.specs.Prelude.{◌≡◌, Ok, IfOk, IfErr};
 ghost use Rattle.script_model.specs.Refusals as refusals;
+ghost use Rattle.script_model.specs.Refusals.{NoScript, or_refused};
 ghost use Rattle.script_model.specs.Inputs as inputs;
+ghost use Rattle.script_model.specs.Scripts.{script_of};
 ghost use Rattle.script_input.specs.Refusals.{Refuses};
 
 use crate::fault::{InputFault, refused};
@@ -37,6 +39,17 @@ pub fn input_script(alloc: Global, bytes: &[u8]) -> Result<Script, InputFault>
     ensures fault { IfErr result (λ fault. Refuses fault (inputs.input_script bytes.now)) }
 {
     let tree = input_tree(alloc, bytes)?;
-    let script = read_script(alloc, &tree)?;
+    tree_script(alloc, &tree)
+}
+
+/// The script that a tree is.
+///
+/// # Errors
+/// The refusal of a tree that is no script; `NoMemory` where memory runs out.
+pub(crate) fn tree_script(alloc: Global, tree: &Tree) -> Result<Script, InputFault>
+    ensures ok { IfOk result (λ script. script_of tree.now ≡ Ok script) }
+    ensures fault { IfErr result (λ fault. Refuses fault (or_refused NoScript (script_of tree.now))) }
+{
+    let script = read_script(alloc, tree)?;
     Ok(script)
 }

@@ -1,6 +1,9 @@
 //! What `check` and `print` answer to an input.
-ghost use Rattle.std.specs.Prelude.{◌≡◌, Ok, IfOk, IfErr, codes, false};
+ghost use Rattle.std.specs.Prelude.{◌≡◌, Ok, IfOk, IfErr, OnOk, IsOk, codes, false};
+ghost use Rattle.script_model.specs.Canonical.{document};
 ghost use Rattle.script_model.specs.Inputs.{checked, printed, input_script};
+ghost use Rattle.script_model.specs.Refusals.{NoScript, or_refused};
+ghost use Rattle.script_model.specs.Scripts.{script_of};
 ghost use Rattle.script_input.specs.Refusals.{Refuses};
 ghost use Rattle.script_input.specs.Inspections.{inspected, due, due_of};
 
@@ -8,8 +11,7 @@ use crate::fault::InputFault;
 use crate::input;
 use crate::refusal::refusal_line;
 use eio_value::NoMemory;
-use script_lang::read_script;
-use script_tree::write_tree;
+use script_tree::{Tree, write_tree};
 use std::alloc::Global;
 use trace_out::Status;
 
@@ -45,9 +47,18 @@ fn print_text(alloc: Global, bytes: &[u8]) -> Result<Vec<u8>, InputFault>
     ensures fault { IfErr result (λ fault. Refuses fault (input_script bytes.now)) }
 {
     let tree = input::input_tree(alloc, bytes)?;
-    read_script(alloc, &tree)?;
+    tree_text(alloc, &tree)
+}
+
+/// What `print` writes for the tree of a script.
+fn tree_text(alloc: Global, tree: &Tree) -> Result<Vec<u8>, InputFault>
+    ensures text { IfOk result (λ text. text.items ≡ document tree.now) }
+    ensures script { OnOk result (IsOk (script_of tree.now)) }
+    ensures fault { IfErr result (λ fault. Refuses fault (or_refused NoScript (script_of tree.now))) }
+{
+    input::tree_script(alloc, tree)?;
     let mut text = Vec::new(alloc);
-    write_tree(&tree, &mut text)?;
+    write_tree(tree, &mut text)?;
     Ok(text)
 }
 
