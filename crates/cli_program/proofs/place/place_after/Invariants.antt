@@ -1,6 +1,6 @@
 use Rattle.std.proofs.Common.{◌≡◌, ◌+◌, ◌≤◌, drop}
-use Rattle.eio_run_cli.specs.Places.{behind_all, place_behind}
-use Rattle.eio_run_cli.proofs.place.place_after.Given as goal
+use Rattle.cli_program.specs.Places.{behind_all, place_behind}
+use Rattle.cli_program.proofs.place.place_after.Given as goal
 
 abbrev pub invariant-loop-byte : goal.invariant-loop-byte
 invariant-loop-byte l = record {

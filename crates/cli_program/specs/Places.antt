@@ -1,6 +1,6 @@
 -- Lines and columns.
 use Rattle.std.specs.Prelude.{ℕ, ◌+◌, ◌==◌, List, [], ◌∷◌, if◌then◌else◌}
-use Rattle.eio_run_cli.specs.declared.place.Place.{Place}
+use Rattle.cli_program.specs.declared.place.Place.{Place}
 
 -- the beginning of the next line, and the next column
 abbrev pub line_behind : Place → Place

@@ -2,8 +2,8 @@
 use Rattle.std.proofs.Common.{arith, Bool, true, false, ◌≡◌, ℕ, ◌+◌, ◌<◌, ◌≤◌, List, ◌∷◌, length, get_or, drop, refl, ap, sym, ◌∙◌, subst, add-one, drop-cons}
 use Rattle.std.proofs.lemmas.List.{drop_all}
 use Rattle.std.specs.Prelude.{◌==◌, if◌then◌else◌}
-use Rattle.eio_run_cli.specs.declared.place.Place.{Place}
-use Rattle.eio_run_cli.specs.Places.{behind, behind_all, column_behind, line_behind}
+use Rattle.cli_program.specs.declared.place.Place.{Place}
+use Rattle.cli_program.specs.Places.{behind, behind_all, column_behind, line_behind}
 
 -- one byte more
 pub passed : (place next whole : Place) (bytes : List ℕ) (i byte : ℕ) → i < length bytes → byte ≡ get_or bytes i 0 → next ≡ behind place byte → behind_all place (drop i bytes) ≡ whole → behind_all next (drop (i + 1) bytes) ≡ whole

@@ -1,6 +1,6 @@
 //! The place of a refusal in its input, for people: its line and column, counted from 1, and the part of the line around it.
-ghost use Rattle.std.specs.Prelude.{◌≡◌, ◌+◌, ◌<◌, ◌≤◌, length};
-ghost use Rattle.eio_run_cli.specs.Places.{behind, place_behind};
+ghost use Rattle.std.specs.Prelude.{◌≡◌, ◌+◌, ◌-◌, ◌<◌, ◌≤◌, length};
+ghost use Rattle.cli_program.specs.Places.{behind, place_behind};
 
 /// A place in a text; a column is a byte.
 #[derive(Clone, Copy)]
@@ -41,34 +41,52 @@ pub(crate) fn place_after(bytes: &[u8]) -> Place
     place
 }
 
-/// The most bytes that are shown before a place, and from it on.
-const BEFORE: usize = 60;
-
-const BEHIND: usize = 20;
-
-/// From which byte to which a line is shown.
+/// From which byte of an input to which.
 #[derive(Clone, Copy)]
-pub(crate) struct Shown {
+pub(crate) struct Span {
     pub begin: usize,
     pub end: usize,
 }
 
-/// The part of a line around a place in its column.
-pub(crate) fn shown_around(input: &[u8], at: usize, column: usize) -> Shown
+/// The line around a place in its column.
+pub(crate) fn line_around(input: &[u8], at: usize, column: usize) -> Span
     requires within { at ≤ length input.now }
     requires column { column ≤ at + 1 }
-    ensures begin { result.begin ≤ at }
+    ensures begin { result.begin ≡ at - (column - 1) }
     ensures place { at ≤ result.end }
     ensures end { result.end ≤ length input.now }
 {
-    let before = column.saturating_sub(1).min(BEFORE);
     let rest = input.split_at(at).1;
     let behind = rest
         .iter()
         .position(|byte| *byte == b'\n')
         .unwrap_or(rest.len());
-    Shown {
+    Span {
+        begin: at - column.saturating_sub(1),
+        end: at + behind,
+    }
+}
+
+/// The most bytes that are shown of a line.
+const WIDTH: usize = 80;
+
+/// How many of them stand before the place, where the line is longer on both sides.
+const BEFORE: usize = 60;
+
+/// The part of a line around a place that is shown: all of a line that isn't too long.
+pub(crate) fn shown_part(line: Span, at: usize) -> Span
+    requires begin { line.begin ≤ at }
+    requires end { at ≤ line.end }
+    ensures begin { (line.begin ≤ result.begin) × (result.begin ≤ at) }
+    ensures end { (at ≤ result.end) × (result.end ≤ line.end) }
+    ensures width { result.end ≤ result.begin + 80 }
+    ensures whole { line.end ≤ line.begin + 80 → result ≡ line }
+{
+    let behind = line.end - at;
+    let room = WIDTH.saturating_sub(behind).max(BEFORE);
+    let before = room.min(at - line.begin);
+    Span {
         begin: at - before,
-        end: at + behind.min(BEHIND),
+        end: at + behind.min(WIDTH - before),
     }
 }

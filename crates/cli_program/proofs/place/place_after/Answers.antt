@@ -1,6 +1,6 @@
 use Rattle.std.proofs.Common.{refl}
-use Rattle.eio_run_cli.proofs.Behind.{at_end, column_of, line_of, passed}
-use Rattle.eio_run_cli.proofs.place.place_after.Goals as goal
+use Rattle.cli_program.proofs.Behind.{at_end, column_of, line_of, passed}
+use Rattle.cli_program.proofs.place.place_after.Goals as goal
 
 pub loop-byte-preserved : goal.loop-byte-preserved
 loop-byte-preserved c = record {
