@@ -5,14 +5,8 @@
 //! than well.
 #![tactic(auto)]
 
-#[cfg(test)]
-mod examples;
-#[cfg(test)]
-mod forms;
 mod rest;
 mod steps;
-#[cfg(test)]
-mod tests;
 mod top;
 mod words;
 

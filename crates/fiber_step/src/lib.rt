@@ -17,8 +17,6 @@ mod settling;
 mod silent;
 mod statements;
 mod step;
-#[cfg(test)]
-mod tests;
 mod throw;
 mod turn;
 mod unwind;

@@ -12,8 +12,6 @@ mod mock;
 mod respond;
 mod run;
 mod script;
-#[cfg(test)]
-mod tests;
 mod trace;
 
 pub use laws::turns_are_moves;

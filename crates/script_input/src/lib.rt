@@ -16,6 +16,3 @@ pub use fault::InputFault;
 pub use input::{input_script, input_tree};
 pub use inspection::Inspection;
 pub use refusal::{Kind, Refusal, refusal_line};
-
-#[cfg(test)]
-mod tests;

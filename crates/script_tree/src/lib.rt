@@ -17,6 +17,3 @@ pub use fault::TreeFault;
 pub use reader::read_tree;
 pub use tree::{Node, Tree};
 pub use write::write_tree;
-
-#[cfg(test)]
-mod tests;
