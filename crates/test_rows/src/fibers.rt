@@ -8,7 +8,7 @@
 ghost use Rattle.std.specs.Prelude.{◌≤◌, length, IfOk, OnOk};
 ghost use Rattle.fiber_step.specs.Placing.{ArePlaced};
 ghost use Rattle.fiber_step.specs.Stepping.{HasBodiesOf};
-ghost use Rattle.script_lang.specs.Flat.{nodes_of};
+ghost use Rattle.script_forms.specs.Flat.{nodes_of};
 
 use crate::spelling::push_call;
 use crate::trees::push_fault;
