@@ -1,16 +1,22 @@
 -- Worked rows: a domain in which fibers wait, so that the premises of the laws can be met, and what cancellations strike there.
-use Rattle.std.proofs.Common.{◌≡◌, ℕ, [], ◌∷◌, Some, None, true, false, refl}
+use Rattle.std.proofs.Common.{◌≡◌, ℕ, [], ◌∷◌, ◌++◌, map, slice_set, Contains, Some, None, true, false, refl, arith}
 use Rattle.eio_value.specs.declared.plain.Plain.TheVariants.{Exit}
 use Rattle.eio_value.specs.declared.raised.Outcome.TheVariants as outcome
 use Rattle.eio_value.specs.declared.value.Value.TheVariants as value
-use Rattle.row_model.specs.Contexts.{new_context, way_within}
-use Rattle.row_model.specs.ContextCalls.{Contexts, Root, Sub, Protect, Wait, after}
-use Rattle.cancel_tree.specs.Forgetting.{MayCallAll, left_after}
+use Rattle.row_model.specs.Contexts.{new_context, off, sub, to_be_struck, way_within}
+use Rattle.row_model.specs.ContextCalls.{Contexts, Root, Sub, Protect, Cancel, Wait, Unwait, after, called, put_in}
+use Rattle.cancel_tree.specs.Forgetting.{MayCallAll, left, left_after}
+use Rattle.cancel_tree.specs.Waits.{waits, waits_in}
 use Rattle.step_model.specs.Asks as ask
-use Rattle.machine_model.specs.Domain.{OfBody, GoesOn, ForCancel, ForOthers, Asleep, Standing, Ready, Parked, Ended, Fiber, DomainState, nothing_made}
+use Rattle.machine_model.specs.Domain.{OfBody, GoesOn, LooksUp, ForCancel, ForOthers, Asleep, Standing, Ready, Parked, Ended, Fiber, Duty, Strike, DomainState, fiber_at, nothing_made, off_for, to_back}
+use Rattle.machine_model.specs.DutyMoves.{strike_told}
 use Rattle.machine_model.specs.Steps.{cancels, strike_by, waiting_from}
 use Rattle.waiting_laws.specs.InStep.{AreContexts}
-use Rattle.waiting_laws.specs.WhoWaits.{contexts_of, waiting_in}
+use Rattle.waiting_laws.specs.WhoWaits.{contexts_of, waiting_in, waits_as}
+use Rattle.waiting_laws.proofs.Alike.{contexts_in_step, domains_in_step, strikes_in_step}
+use Rattle.waiting_laws.proofs.Listed as listed
+use Rattle.waiting_laws.proofs.Parts.{fibers_in_step, calls_in_step}
+use Rattle.waiting_laws.proofs.Struck.{by_number}
 
 fiber : (context : ℕ) → Standing → Fiber
 fiber context standing = record { context = context; role = OfBody; cell = 0; work = []; variables = []; standing = standing }
@@ -61,3 +67,49 @@ struck_once = refl
 struck_behind_the_protected : (cancels 0 2 Exit worked).duties ≡ strike_by 0 3 ∷ []
 unfolding worked fiber waiting_from way_within
 struck_behind_the_protected = refl
+
+-- ## What the laws say of it
+
+-- fiber 0 begins to wait
+abbrev parked : Fiber
+parked = fiber 0 (Parked ForCancel)
+
+put_in_its_place : waiting_from 0 (slice_set worked.fibers 0 parked) ≡ put_in (waits_as 0 parked) (waiting_from 0 worked.fibers)
+unfolding worked fiber
+put_in_its_place = listed.in_step.parks worked.fibers 0 parked (omega arith) refl refl
+
+somebody_waits_in_1 : waits_in 1 (waiting_from 0 worked.fibers) ≡ true
+unfolding worked fiber
+somebody_waits_in_1 = listed.by_standing.runs_there worked.fibers 1 refl
+
+first_is_struck : Contains (to_be_struck worked.contexts (waiting_from 0 worked.fibers) 0) 1
+unfolding worked fiber way_within
+first_is_struck = by_number.strikes worked.contexts worked.fibers 0 1 refl refl refl
+
+goes_on_with_a_context : AreContexts (left (Sub 1) kept) (called (Sub 1) (contexts_of worked))
+unfolding kept worked
+goes_on_with_a_context = contexts_in_step.goes_on kept (contexts_of worked) (Sub 1) in_step refl
+
+struck_by_what_is_kept :
+    ((cancels 0 0 Exit worked).duties ≡ worked.duties ++ map (strike_by 0) (to_be_struck kept.made kept.waiting 0))
+    × AreContexts (called (Cancel 0 Exit) kept) (contexts_of (cancels 0 0 Exit worked))
+struck_by_what_is_kept = domains_in_step.cancelled kept worked 0 0 Exit in_step
+
+abbrev strike : Duty
+strike = record { maker = 0; owed = Strike 1 }
+
+the_strike_is_won :
+    (waits 1 kept.waiting ≡ true) × (off kept.made (fiber_at worked.fibers 1).context ≡ off_for worked 1)
+    × AreContexts (called (Unwait 1) kept) (contexts_of (strike_told strike 1 true worked).state)
+unfolding kept worked fiber
+the_strike_is_won = strikes_in_step.won kept worked strike 1 in_step refl refl
+
+at_the_back : AreContexts kept (contexts_of (to_back LooksUp 0 worked))
+unfolding worked fiber
+at_the_back = fibers_in_step.last kept worked 0 LooksUp in_step refl
+
+one_context_more :
+    ((sub 1 kept.made).number ≡ (sub 1 worked.contexts).number)
+    × AreContexts (called (Sub 1) kept) (contexts_of (record worked { contexts = (sub 1 worked.contexts).contexts }))
+unfolding worked
+one_context_more = calls_in_step.subs kept worked 1 in_step refl
