@@ -1,5 +1,5 @@
 -- Worked runs, so that the premises of the laws can be met: a switch with a fiber, a daemon and three handlers, of which one registers the last; and a group of two branches.
-use Rattle.std.proofs.Common.{◌≡◌, ℕ, true, false, List, [], ◌∷◌, Option, Some, None, refl}
+use Rattle.std.proofs.Common.{◌≡◌, ℕ, true, false, List, [], ◌∷◌, Option, Some, None, refl, sym, ap, subst, ◌∙◌}
 use Rattle.eio_value.specs.declared.message.Message.{Message}
 use Rattle.eio_value.specs.declared.message.Message.TheVariants as message
 use Rattle.eio_value.specs.declared.raised.Outcome.TheVariants as outcome
@@ -26,7 +26,14 @@ use Rattle.machine_model.specs.Preparing as doing
 use Rattle.machine_model.specs.Preparing.{prepared}
 use Rattle.machine_model.specs.Steps.{waiting_from}
 use Rattle.machine_model.specs.Trace.{run}
-use Rattle.scope_laws.specs.Released.{Seen, seen_of, accepted, batches}
+use Rattle.scope_laws.specs.Finished.{IsResult, NoneIsLeft}
+use Rattle.scope_laws.specs.Handling.{AnyOf, LeavesContext, context_after}
+use Rattle.scope_laws.specs.Joined.{NoBranchIsLeft}
+use Rattle.scope_laws.specs.Released.{Seen, Released, seen_of, accepted, batches}
+use Rattle.scope_laws.proofs.Handling.{handlers_end_in_runs}
+use Rattle.scope_laws.proofs.Joined.{groups_leave_nothing_in_runs}
+use Rattle.scope_laws.proofs.Mocked.{leaves_nothing_in_runs}
+use Rattle.scope_laws.proofs.Released.{releases_once_in_runs}
 
 abbrev statements : List Statement → Statements
 statements [] = Done
@@ -138,3 +145,68 @@ it_joins = (refl, refl, refl)
 its_branch_moves_again : (has_ended (fiber_at (run both_of 6).last.local.fibers 1) ≡ true) × (has_ended (fiber_at (after both_of (run both_of 6).last.local 7 (Took late)).fibers 1) ≡ false)
 unfolding run moves move prepared own_call value_of values_of answered statement waiting_from way_within block_numbered blocks_of_statement branched after
 its_branch_moves_again = (refl, refl)
+
+-- ## What the laws say of them
+
+-- a move by this fiber that tells this
+record Tells (found : Option Moved) (fiber : ℕ) (it : Did) (reply : Said2) : Type 0 where
+  pub moved : Moved
+  pub is : found ≡ Some moved
+  pub caller : moved.line.fiber ≡ fiber
+  pub call : moved.line.did ≡ it
+  pub answer : moved.line.reply ≡ reply
+
+abbrev line_told : Option Moved → Option (ℕ × Did × Said2)
+line_told None = None
+line_told (Some moved) = Some (moved.line.fiber, moved.line.did, moved.line.reply)
+
+abbrev told_or : ℕ × Did × Said2 → Option (ℕ × Did × Said2) → ℕ × Did × Said2
+told_or it None = it
+told_or it (Some told) = told
+
+tells : (found : Option Moved) (fiber : ℕ) (it : Did) (reply : Said2) → line_told found ≡ Some (fiber, it, reply) → Tells found fiber it reply
+tells None fiber it reply same = absurd (cc)
+tells (Some moved) fiber it reply same =
+    let told = ap (told_or (fiber, it, reply)) same in
+    record { moved = moved; is = refl; caller = ap (λ t. t.0) told; call = ap (λ t. t.1) told; answer = ap (λ t. t.2) told }
+
+closing : Tells (move worked (run worked 19).last) 0 (did.Close 0) (said.Done value.Unit)
+unfolding run moves move prepared own_call value_of values_of answered statement waiting_from way_within block_numbered blocks_of_statement
+closing = tells (move worked (run worked 19).last) 0 (did.Close 0) (said.Done value.Unit) refl
+
+is_result : (reply : Said2) → reply ≡ said.Done value.Unit → IsResult reply
+is_result reply same = subst IsResult (sym same) tt
+
+-- `close` has answered: four moves later nobody who was forked onto the switch is left, and its handlers have run
+nothing_is_left : NoneIsLeft 0 (run worked 24).last.local
+nothing_is_left =
+    leaves_nothing_in_runs worked 19 4 0 closing.moved closing.is (record { call = closing.call; result = is_result closing.moved.line.reply closing.answer })
+
+all_are_released : Released worked 0 (seen_of (opening worked) (run worked 19).moves)
+all_are_released =
+    releases_once_in_runs worked 19 0 closing.moved closing.is (record { call = closing.call; result = is_result closing.moved.line.reply closing.answer })
+
+-- the last handler runs from here on
+entering : Tells (move worked (run worked 17).last) 0 (did.Close 0) said.Handler
+unfolding run moves move prepared own_call value_of values_of answered statement waiting_from way_within block_numbered blocks_of_statement
+entering = tells (move worked (run worked 17).last) 0 (did.Close 0) said.Handler refl
+
+its_context_is_left :
+    AnyOf (λ z. LeavesContext entering.moved.line.fiber (context_after entering.moved.line entering.moved.next.local) z.line) (moves worked 1 entering.moved.next)
+its_context_is_left =
+    handlers_end_in_runs worked 17 1 0 entering.moved closing.moved entering.is (record { call = entering.call; handler = entering.answer }) closing.is
+    (record { call = closing.call; caller = closing.caller ∙ sym entering.caller })
+
+joining : Tells (move both_of (run both_of 5).last) 0 (did.Join 1) (said.Done value.Unit)
+unfolding run moves move prepared own_call value_of values_of answered statement waiting_from way_within block_numbered blocks_of_statement branched
+joining = tells (move both_of (run both_of 5).last) 0 (did.Join 1) (said.Done value.Unit) refl
+
+no_branch_is_left : NoBranchIsLeft 0 (run both_of 7).last.local
+no_branch_is_left =
+    groups_leave_nothing_in_runs both_of 5 1 0 joining.moved joining.is (record {
+      own = None;
+      call = it_joins.0 ∙ ap (λ g. doing.Calls g (ask.Join 0 None)) (sym joining.caller);
+      context = 1;
+      told = joining.call;
+      result = is_result joining.moved.line.reply joining.answer;
+    })
