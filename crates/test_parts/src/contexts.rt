@@ -6,6 +6,7 @@ ghost use Rattle.row_model.specs.Contexts as model;
 
 use cancel_tree::Contexts;
 use eio_value::{Full, Plain};
+use std::alloc::Global;
 use std::test::Fail;
 
 /// A context below this one, protected or not.
@@ -21,20 +22,18 @@ fn below(contexts: &mut Contexts, top: u32, protected: bool) -> Result<u32, Full
     }
 }
 
-/// Cancels a context in which the fiber 5 waits, over one, protected or not, in which 7 does. Appends those that are reached before, and those that are
-/// struck; gives the number of the context below.
+/// Cancels a context in which the fiber 5 waits, over one, protected or not, in which 7 does. Appends those that are struck, and gives
+/// the number of the context below.
 fn cancel_above(
     contexts: &mut Contexts,
     protected: bool,
-    reached: &mut Vec<u32>,
     struck: &mut Vec<u32>,
 ) -> Result<u32, Full>
     requires none { contexts.old ≡ calls.no_contexts }
-    requires reached { vec_len reached.old + 1024 ≤ vec_capacity reached.old }
-    requires struck { vec_len struck.old + 1024 ≤ vec_capacity struck.old }
+    requires room { vec_len struck.old + 1024 ≤ vec_capacity struck.old }
 {
     let top = contexts.root()?;
-    if !contexts.is_live(top) {
+    if !contexts.is_live(top) || contexts.is_full() {
         return Err(Full);
     }
     let below = below(contexts, top, protected)?;
@@ -46,7 +45,6 @@ fn cancel_above(
         return Err(Full);
     }
     contexts.wait(top, 5);
-    contexts.members(top, reached);
     contexts.strike(top, Plain::EndOfFile, struck);
     Ok(below)
 }
@@ -65,37 +63,40 @@ fn two(fibers: &[u32]) -> [Option<u32>; 2] {
     [fibers.first().copied(), fibers.get(1).copied()]
 }
 
-/// Whether the one below is protected, which two fibers are struck first, whether it can be cancelled besides, and by which reason it is off then.
-const CANCELLED: [(bool, [Option<u32>; 2], bool, Plain); 2] = [
-    (false, [Some(5), Some(7)], false, Plain::EndOfFile),
-    (true, [Some(5), None], true, Plain::NotFirst),
-];
+/// Whether a context is cancelled with the one below it, unless that is protected: these fibers are struck, and the one below is off by this reason.
+fn cancels(
+    alloc: Global,
+    protected: bool,
+    fibers: [Option<u32>; 2],
+    why: Plain,
+) -> Result<bool, Fail> {
+    let mut contexts = Contexts::new(alloc)?;
+    let mut struck = Vec::with_capacity(alloc, 1024)?;
+    let below = cancel_above(&mut contexts, protected, &mut struck)?;
+    let is_struck = two(struck.as_slice()) == fibers;
+    Ok(is_struck && state(&mut contexts, below) == (protected, Some(why), Some(0)))
+}
 
 #[test]
 fn cancels_below_but_not_the_protected(rt: HostRuntime) -> Result<(), Fail> {
-    for (protected, fibers, took, why) in CANCELLED {
-        let mut contexts = Contexts::new(rt.alloc())?;
-        let mut reached = Vec::with_capacity(rt.alloc(), 1024)?;
-        let mut struck = Vec::with_capacity(rt.alloc(), 1024)?;
-        let below = cancel_above(&mut contexts, protected, &mut reached, &mut struck)?;
-        assert_eq!(rt;
-            [two(reached.as_slice()), two(struck.as_slice())],
-            [fibers, fibers]
-        );
-        assert_eq!(rt; state(&mut contexts, below), (took, Some(why), Some(0)));
-    }
+    let both = [Some(5), Some(7)];
+    assert!(rt; cancels(rt.alloc(), false, both, Plain::EndOfFile)?);
+    assert!(rt; cancels(rt.alloc(), true, [Some(5), None], Plain::NotFirst)?);
     Ok(())
 }
 
-/// Ends a context in which nobody waits any more: whether it is live, whether it can be cancelled, and the number of the next.
-fn end_one(contexts: &mut Contexts) -> Result<(bool, bool, u32), Full>
-    requires { contexts.old ≡ calls.no_contexts }
+/// Ends a context in which nobody waits any more, and appends who is reached while the fiber 7 waits there. Whether it is live then, whether it can be
+/// cancelled, and the number of the next.
+fn end_one(contexts: &mut Contexts, reached: &mut Vec<u32>) -> Result<(bool, bool, u32), Full>
+    requires none { contexts.old ≡ calls.no_contexts }
+    requires room { vec_len reached.old + 1024 ≤ vec_capacity reached.old }
 {
     let top = contexts.root()?;
     if !contexts.is_live(top) {
         return Err(Full);
     }
     contexts.wait(top, 7);
+    contexts.members(top, reached);
     contexts.unwait(7);
     if !contexts.is_live(top) {
         return Err(Full);
@@ -109,7 +110,8 @@ fn end_one(contexts: &mut Contexts) -> Result<(bool, bool, u32), Full>
 #[test]
 fn ended_is_not_live(rt: HostRuntime) -> Result<(), Fail> {
     let mut contexts = Contexts::new(rt.alloc())?;
-    assert_eq!(rt; end_one(&mut contexts)?, (false, false, 1));
-    assert!(rt; !contexts.is_full());
+    let mut reached = Vec::with_capacity(rt.alloc(), 1024)?;
+    let ended = end_one(&mut contexts, &mut reached)?;
+    assert!(rt; ended == (false, false, 1) && two(reached.as_slice()) == [Some(7), None]);
     Ok(())
 }

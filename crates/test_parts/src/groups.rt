@@ -4,10 +4,11 @@ ghost use Rattle.std.specs.Prelude.{◌≡◌, []};
 
 use eio_value::{Member, NoMemory, Outcome, Plain, Raised, TextId, Value};
 use group_core::{GroupKind, Groups, JoinStep};
+use std::alloc::Global;
 use std::test::Fail;
 
 /// A raise of a text, with this serial.
-const fn failure(serial: u64) -> Member {
+fn failure(serial: u64) -> Member {
     Member {
         serial,
         what: Plain::Failure(TextId(0)),
@@ -51,43 +52,36 @@ fn end_both(groups: &mut Groups, kind: GroupKind, outcomes: [Outcome; 2]) -> Res
     ))
 }
 
-const SEVEN: Outcome = Outcome::Ok(Value::Int(7));
+/// Whether this is seen.
+fn sees(
+    alloc: Global,
+    kind: GroupKind,
+    outcomes: [Outcome; 2],
+    wanted: Seen,
+) -> Result<bool, NoMemory> {
+    let mut groups = Groups::new(alloc);
+    Ok(end_both(&mut groups, kind, outcomes)? == wanted && groups.len() == 1)
+}
 
-const EIGHT: Outcome = Outcome::Ok(Value::Int(8));
-
-#[test]
-fn branches_end(rt: HostRuntime) -> Result<(), Fail> {
-    let failed = Outcome::Err(Raised::One(failure(1)));
-    let cancelled = Outcome::Err(Raised::Cancelled(failure(2)));
-    let why = Some(failure(1).what);
+/// Whether two values make the group give unit, or the first one of them where the kind keeps it, which cancels the other.
+fn values_end(alloc: Global) -> Result<bool, NoMemory> {
+    let values = [Outcome::Ok(Value::Int(7)), Outcome::Ok(Value::Int(8))];
     let waits = ("waits", 0);
-    for (kind, outcomes, wanted) in [
-        (
-            GroupKind::Both,
-            [SEVEN, EIGHT],
-            ([None, None], Some(3), None, [waits, ("gives", 0)]),
-        ),
-        (
-            GroupKind::First,
-            [SEVEN, EIGHT],
-            (
-                [Some(Plain::NotFirst), None],
-                Some(3),
-                Some(Value::Int(7)),
-                [waits, ("gives", 7)],
-            ),
-        ),
-        (
-            GroupKind::Any,
-            [failed, cancelled],
-            ([why, why], Some(3), None, [waits, ("raises", 1)]),
-        ),
-    ] {
-        let mut groups = Groups::new(rt.alloc());
-        assert_eq!(rt; end_both(&mut groups, kind, outcomes)?, wanted);
-        assert_eq!(rt; groups.len(), 1);
-    }
-    Ok(())
+    let both = ([None, None], Some(3), None, [waits, ("gives", 0)]);
+    let cancels = [Some(Plain::NotFirst), None];
+    let first = (cancels, Some(3), Some(Value::Int(7)), [waits, ("gives", 7)]);
+    Ok(sees(alloc, GroupKind::Both, values, both)? && sees(alloc, GroupKind::First, values, first)?)
+}
+
+/// Whether an exception cancels the other branch, and is raised without the cancellation that comes of it.
+fn exceptions_end(alloc: Global) -> Result<bool, NoMemory> {
+    let outcomes = [
+        Outcome::Err(Raised::One(failure(1))),
+        Outcome::Err(Raised::Cancelled(failure(2))),
+    ];
+    let why = Some(failure(1).what);
+    let raises = ([why, why], Some(3), None, [("waits", 0), ("raises", 1)]);
+    sees(alloc, GroupKind::Any, outcomes, raises)
 }
 
 /// The context of a new group.
@@ -99,9 +93,10 @@ fn context(groups: &mut Groups) -> Result<u32, NoMemory>
 }
 
 #[test]
-fn a_group_has_its_context(rt: HostRuntime) -> Result<(), Fail> {
+fn branches_end(rt: HostRuntime) -> Result<(), Fail> {
+    assert!(rt; values_end(rt.alloc())?);
+    assert!(rt; exceptions_end(rt.alloc())?);
     let mut groups = Groups::new(rt.alloc());
-    assert!(rt; groups.is_empty());
-    assert_eq!(rt; context(&mut groups)?, 4);
+    assert!(rt; groups.is_empty() && context(&mut groups)? == 4);
     Ok(())
 }

@@ -21,14 +21,12 @@ fn popped(ready: &mut Ready) -> (Option<u32>, bool) {
     (ready.pop(), ready.is_empty())
 }
 
-#[test]
-fn fibers_move_in_order(rt: HostRuntime) -> Result<(), Fail> {
-    let mut ready = Ready::new(rt.alloc(), 2)?;
-    assert_eq!(rt; pushed(&mut ready), [true, true, false]);
-    for wanted in [(Some(4), false), (Some(7), true), (None, true)] {
-        assert_eq!(rt; popped(&mut ready), wanted);
-    }
-    Ok(())
+/// Whether fibers move in order, and no more go in than may.
+fn fibers_move(ready: &mut Ready) -> bool {
+    pushed(ready) == [true, true, false]
+        && popped(ready) == (Some(4), false)
+        && popped(ready) == (Some(7), true)
+        && popped(ready) == (None, true)
 }
 
 /// Three fibers sleep; whether a fourth does.
@@ -46,18 +44,26 @@ fn gone_off(timers: &mut Timers, now: i64) -> (Option<i64>, Option<u32>) {
     (timers.earliest(), timers.pop_due(now))
 }
 
+/// Whether timers go off in order, and one that is removed doesn't.
+fn timers_go_off(timers: &mut Timers) -> Result<bool, Full>
+    requires { timers.old.timers ≡ list.no_timers }
+{
+    Ok(
+        !slept(timers)?
+            && gone_off(timers, 9) == (Some(10), None)
+            && gone_off(timers, 20) == (Some(10), Some(2))
+            && gone_off(timers, 20) == (Some(10), Some(3))
+            && gone_off(timers, 20) == (Some(30), None)
+            && timers.remove(1)
+            && !timers.remove(1),
+    )
+}
+
 #[test]
-fn timers_go_off_in_order(rt: HostRuntime) -> Result<(), Fail> {
+fn they_go_in_order(rt: HostRuntime) -> Result<(), Fail> {
+    let mut ready = Ready::new(rt.alloc(), 2)?;
+    assert!(rt; fibers_move(&mut ready));
     let mut timers = Timers::new(rt.alloc(), 3)?;
-    assert_eq!(rt; slept(&mut timers)?, false);
-    for (now, earliest, fiber) in [
-        (9, Some(10), None),
-        (20, Some(10), Some(2)),
-        (20, Some(10), Some(3)),
-        (20, Some(30), None),
-    ] {
-        assert_eq!(rt; gone_off(&mut timers, now), (earliest, fiber));
-    }
-    assert_eq!(rt; [timers.remove(1), timers.remove(1)], [true, false]);
+    assert!(rt; timers_go_off(&mut timers)?);
     Ok(())
 }

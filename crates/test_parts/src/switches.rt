@@ -47,13 +47,6 @@ fn close_over_a_fiber(switches: &mut Switches) -> Result<(&'static str, Option<u
     Ok((name_of(&step), switches.detach(sw, 7)))
 }
 
-#[test]
-fn the_last_fiber_wakes_the_closer(rt: HostRuntime) -> Result<(), Fail> {
-    let mut switches = Switches::new(rt.alloc());
-    assert_eq!(rt; close_over_a_fiber(&mut switches)?, ("wait", Some(3)));
-    Ok(())
-}
-
 /// What the fiber 3 finds in the close of a switch with a daemon, and the switch's context.
 fn close_over_a_daemon(switches: &mut Switches) -> Result<(&'static str, u32), NoMemory>
     requires { switches.old ≡ [] }
@@ -64,13 +57,6 @@ fn close_over_a_daemon(switches: &mut Switches) -> Result<(&'static str, u32), N
     }
     let step = switches.close_step(sw, 3);
     Ok((name_of(&step), switches.context(sw)))
-}
-
-#[test]
-fn a_daemon_is_cancelled(rt: HostRuntime) -> Result<(), Fail> {
-    let mut switches = Switches::new(rt.alloc());
-    assert_eq!(rt; close_over_a_daemon(&mut switches)?, ("cancel daemons", 4));
-    Ok(())
 }
 
 /// The node and the first variable of a handler.
@@ -103,14 +89,6 @@ fn close_over_a_handler(
     }
 }
 
-#[test]
-fn a_handler_runs(rt: HostRuntime) -> Result<(), Fail> {
-    let mut switches = Switches::new(rt.alloc());
-    let next = close_over_a_handler(&mut switches, handler(rt.alloc(), 5)?)?;
-    assert_eq!(rt; told(next), Some((5, Some(Value::Ctx(5)))));
-    Ok(())
-}
-
 /// What the close of a switch finds into which an exception was raised, and whether it then is finished, and refuses fibers and exceptions.
 fn close_with_errors(switches: &mut Switches) -> Result<(&'static str, [bool; 4]), NoMemory>
     requires { switches.old ≡ [] }
@@ -140,17 +118,28 @@ fn given_back(switches: &mut Switches, handler: Handler) -> Result<Option<u32>, 
 }
 
 #[test]
-fn errors_are_raised_and_then_it_is_finished(rt: HostRuntime) -> Result<(), Fail> {
+fn fibers_are_waited_for_and_daemons_cancelled(rt: HostRuntime) -> Result<(), Fail> {
     let mut switches = Switches::new(rt.alloc());
-    assert_eq!(rt; close_with_errors(&mut switches)?, ("raise", [true; 4]));
-    assert_eq!(rt; switches.len(), 1);
+    assert!(rt; close_over_a_fiber(&mut switches)? == ("wait", Some(3)));
+    let mut others = Switches::new(rt.alloc());
+    assert!(rt; close_over_a_daemon(&mut others)? == ("cancel daemons", 4));
     Ok(())
 }
 
 #[test]
-fn a_finished_switch_gives_a_handler_back(rt: HostRuntime) -> Result<(), Fail> {
+fn errors_are_raised_and_then_it_is_finished(rt: HostRuntime) -> Result<(), Fail> {
     let mut switches = Switches::new(rt.alloc());
-    let back = given_back(&mut switches, handler(rt.alloc(), 5)?)?;
-    assert_eq!(rt; back, Some(5));
+    assert!(rt; close_with_errors(&mut switches)? == ("raise", [true; 4]) && switches.len() == 1);
+    Ok(())
+}
+
+#[test]
+fn a_handler_runs_unless_it_is_finished(rt: HostRuntime) -> Result<(), Fail> {
+    let mut switches = Switches::new(rt.alloc());
+    let next = close_over_a_handler(&mut switches, handler(rt.alloc(), 5)?)?;
+    assert!(rt; told(next) == Some((5, Some(Value::Ctx(5)))));
+    let mut others = Switches::new(rt.alloc());
+    let back = given_back(&mut others, handler(rt.alloc(), 6)?)?;
+    assert!(rt; back == Some(6));
     Ok(())
 }
