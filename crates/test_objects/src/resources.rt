@@ -70,17 +70,6 @@ fn put_back(alloc: Global, dead: [(u32, u64); 2]) -> Result<(Option<u64>, &'stat
     Ok((wake.woken(), name_of(&used)))
 }
 
-#[test]
-fn the_first_that_is_alive_goes_on(rt: HostRuntime) -> Result<(), Fail> {
-    for (dead, woken) in DEAD {
-        let left = if woken.is_some() { "off" } else { "done" };
-        assert_eq!(rt; released(rt.alloc(), dead)?, (woken, left));
-        assert_eq!(rt; unlocked(rt.alloc(), dead)?, (woken, left));
-        assert_eq!(rt; put_back(rt.alloc(), dead)?, (woken, left));
-    }
-    Ok(())
-}
-
 /// The wait that is woken with `Poisoned` where these are dead: as it is told, and as it is answered.
 fn poisoned(alloc: Global, dead: [(u32, u64); 2]) -> Result<[Option<u64>; 2], NoMemory> {
     let mut lock = Lock::new(alloc, 4)?;
@@ -89,14 +78,6 @@ fn poisoned(alloc: Global, dead: [(u32, u64); 2]) -> Result<[Option<u64>; 2], No
     lock.poison();
     let answer = lock.next_wake(&mut wake, 5);
     Ok([wake.woken(), woken_in(&answer)])
-}
-
-#[test]
-fn a_poisoned_mutex_wakes_the_first_that_is_alive(rt: HostRuntime) -> Result<(), Fail> {
-    for (dead, woken) in DEAD {
-        assert_eq!(rt; poisoned(rt.alloc(), dead)?, [woken, woken]);
-    }
-    Ok(())
 }
 
 /// What calls on a semaphore answer of which one is left.
@@ -109,18 +90,12 @@ fn of_one(sem: &mut Sem) -> [&'static str; 3]
     [name_of(&done), name_of(&off), name_of(&waits)]
 }
 
-#[test]
-fn a_semaphore_is_acquired(rt: HostRuntime) -> Result<(), Fail> {
-    let mut sem = Sem::new(rt.alloc(), 1, 4)?;
-    assert_eq!(rt; of_one(&mut sem), ["done", "off", "waits"]);
-    Ok(())
-}
-
-/// What calls on a free mutex answer, which is poisoned before the last two.
+/// What calls on a mutex answer that is held, which is poisoned before the last two.
 fn of_a_mutex(alloc: Global, lock: &mut Lock) -> [&'static str; 4]
     requires { lock.old.cells ≡ 4 }
 {
-    let done = lock.lock(waiter(1, 10), false, 1);
+    let done = lock.unlock(&mut all_alive(alloc), 1);
+    lock.try_lock(2);
     let waits = lock.lock(waiter(1, 11), false, 2);
     lock.poison();
     let raised = lock.lock(waiter(1, 12), true, 3);
@@ -134,25 +109,12 @@ fn of_a_mutex(alloc: Global, lock: &mut Lock) -> [&'static str; 4]
 }
 
 /// What two calls of `try_lock` give.
-fn tried(lock: &mut Lock) -> [Option<i64>; 2] {
+fn tried(lock: &mut Lock) -> [Option<i64>; 2]
+    ensures { lock.new.cells ≡ lock.old.cells }
+{
     let first = lock.try_lock(1);
     let second = lock.try_lock(2);
     [number_in(&first), number_in(&second)]
-}
-
-#[test]
-fn a_mutex_is_locked(rt: HostRuntime) -> Result<(), Fail> {
-    let mut lock = Lock::new(rt.alloc(), 4)?;
-    let answers = of_a_mutex(rt.alloc(), &mut lock);
-    assert_eq!(rt; answers, ["done", "waits", "raised", "raised"]);
-    Ok(())
-}
-
-#[test]
-fn a_mutex_is_tried(rt: HostRuntime) -> Result<(), Fail> {
-    let mut lock = Lock::new(rt.alloc(), 4)?;
-    assert_eq!(rt; tried(&mut lock), [Some(1), Some(0)]);
-    Ok(())
 }
 
 /// What two uses of a pool give, and what is answered where a resource is put back that isn't out.
@@ -165,12 +127,36 @@ fn used(alloc: Global, pool: &mut Pool) -> ([Option<i64>; 2], &'static str)
     ([number_in(&first), number_in(&second)], name_of(&nothing))
 }
 
+/// The first row that isn't met.
+fn wrong_row(alloc: Global) -> Result<Option<usize>, NoMemory> {
+    for row in 0..DEAD.len() {
+        let (dead, woken) = DEAD[row];
+        let wanted = (woken, if woken.is_some() { "off" } else { "done" });
+        if released(alloc, dead)? != wanted
+            || unlocked(alloc, dead)? != wanted
+            || put_back(alloc, dead)? != wanted
+            || poisoned(alloc, dead)? != [woken, woken]
+        {
+            return Ok(Some(row));
+        }
+    }
+    Ok(None)
+}
+
 #[test]
-fn a_pool_is_used(rt: HostRuntime) -> Result<(), Fail> {
+fn the_first_that_is_alive_goes_on(rt: HostRuntime) -> Result<(), Fail> {
+    assert_eq!(rt; wrong_row(rt.alloc())?, None);
+    Ok(())
+}
+
+#[test]
+fn each_is_taken_where_it_is_free(rt: HostRuntime) -> Result<(), Fail> {
+    let mut sem = Sem::new(rt.alloc(), 1, 4)?;
+    assert!(rt; of_one(&mut sem) == ["done", "off", "waits"]);
+    let mut lock = Lock::new(rt.alloc(), 4)?;
+    assert!(rt; tried(&mut lock) == [Some(1), Some(0)]);
+    assert!(rt; of_a_mutex(rt.alloc(), &mut lock) == ["done", "waits", "raised", "raised"]);
     let mut pool = Pool::new(rt.alloc(), 2, 4)?;
-    assert_eq!(rt;
-        used(rt.alloc(), &mut pool),
-        ([Some(0), Some(1)], "nothing")
-    );
+    assert!(rt; used(rt.alloc(), &mut pool) == ([Some(0), Some(1)], "nothing"));
     Ok(())
 }

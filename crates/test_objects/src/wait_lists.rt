@@ -31,7 +31,7 @@ fn enter(list: &mut WaitList)
 }
 
 /// The stamp of the wait that is woken where these are dead.
-fn woken(alloc: Global, dead: [(u32, u64); 2]) -> Result<Option<u64>, NoMemory> {
+fn woken_of(alloc: Global, dead: [(u32, u64); 2]) -> Result<Option<u64>, NoMemory> {
     let mut list = WaitList::new(alloc, 3)?;
     let mut wake = waking(alloc, dead)?;
     enter(&mut list);
@@ -39,33 +39,17 @@ fn woken(alloc: Global, dead: [(u32, u64); 2]) -> Result<Option<u64>, NoMemory> 
     Ok(wake.woken())
 }
 
-#[test]
-fn the_first_that_is_alive_is_woken(rt: HostRuntime) -> Result<(), Fail> {
-    for (dead, wanted) in DEAD {
-        assert_eq!(rt; woken(rt.alloc(), dead)?, wanted);
-    }
-    Ok(())
-}
-
 /// Whether the fiber of cell 0 waits, unless its context is off, and is told the outcome behind the others.
 fn is_told(list: &mut WaitList, wake: &mut MemWake) -> bool
     requires cells { list.old.cells ≡ 3 }
     requires quiet { sent_of wake.old.told ≡ None }
+    ensures cells { list.new.cells ≡ 3 }
 {
     let off = matches!(list.wait(fiber(0, 13), true), Answer::Off);
     let waits = matches!(list.wait(fiber(0, 13), false), Answer::Waits);
     let woken = list.wake_first(wake, &Outcome::Ok(Value::Int(8)));
     let told = matches!(wake.told, Told::Resumed(who, Outcome::Ok(Value::Int(8))) if who.cell == 0);
     off && waits && told && matches!(woken, Some(queued) if queued.number == 13)
-}
-
-#[test]
-fn the_woken_fiber_is_answered(rt: HostRuntime) -> Result<(), Fail> {
-    let mut list = WaitList::new(rt.alloc(), 3)?;
-    let mut wake = waking(rt.alloc(), [(1, 11), (2, 12)])?;
-    enter(&mut list);
-    assert!(rt; is_told(&mut list, &mut wake));
-    Ok(())
 }
 
 /// The stamp of the wait of the fiber that leaves by this number.
@@ -76,19 +60,26 @@ fn taken(list: &mut WaitList, number: u64) -> Option<u64> {
     }
 }
 
-#[test]
-fn the_first_with_a_number_leaves(rt: HostRuntime) -> Result<(), Fail> {
-    let mut list = WaitList::new(rt.alloc(), 3)?;
-    enter(&mut list);
-    for (number, wanted) in [(10, None), (12, Some(12)), (12, None)] {
-        assert_eq!(rt; taken(&mut list, number), wanted);
+/// The first row that isn't met.
+fn wrong_row(alloc: Global) -> Result<Option<usize>, NoMemory> {
+    for row in 0..DEAD.len() {
+        let (dead, woken) = DEAD[row];
+        if woken_of(alloc, dead)? != woken {
+            return Ok(Some(row));
+        }
     }
-    Ok(())
+    Ok(None)
 }
 
-#[test]
-fn a_job_is_started(rt: HostRuntime) {
-    let mut wake = all_alive(rt.alloc());
+/// Whether fibers leave by their numbers, each once.
+fn leave_by_numbers(list: &mut WaitList) -> bool {
+    taken(list, 10) == None && taken(list, 12) == Some(12) && taken(list, 12) == None
+}
+
+/// Whether a job is started as it is told.
+fn starts(wake: &mut MemWake) -> bool
+    requires { sent_of wake.old.told ≡ None }
+{
     let job = Job {
         executor: 1,
         node: 2,
@@ -97,5 +88,23 @@ fn a_job_is_started(rt: HostRuntime) {
         weight: 50,
     };
     wake.start(3, job, 4);
-    assert!(rt; matches!(wake.told, Told::Started(3, job, 4) if job.weight == 50));
+    matches!(wake.told, Told::Started(3, job, 4) if job.weight == 50)
+}
+
+#[test]
+fn the_first_that_is_alive_is_woken(rt: HostRuntime) -> Result<(), Fail> {
+    assert_eq!(rt; wrong_row(rt.alloc())?, None);
+    Ok(())
+}
+
+#[test]
+fn fibers_and_jobs_are_told(rt: HostRuntime) -> Result<(), Fail> {
+    let mut list = WaitList::new(rt.alloc(), 3)?;
+    let mut wake = waking(rt.alloc(), [(1, 11), (2, 12)])?;
+    enter(&mut list);
+    assert!(rt; is_told(&mut list, &mut wake));
+    enter(&mut list);
+    assert!(rt; leave_by_numbers(&mut list));
+    assert!(rt; starts(&mut all_alive(rt.alloc())));
+    Ok(())
 }
