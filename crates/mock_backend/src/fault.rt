@@ -7,7 +7,7 @@ use std::alloc::{AllocError, AllocFailed};
 use trace_out::WriteAll;
 
 /// Why a run stopped before its end. What was written by then is a front of its text.
-#[derive(Clone, Copy, Debug)]
+#[derive(Clone, Copy)]
 pub(crate) enum RunFault {
     /// The sink failed.
     WriteFault,
