@@ -4,9 +4,10 @@ use Rattle.domain_core.specs.declared.turn.Turn.{Turn}
 use Rattle.domain_core.specs.declared.turn.Turn.TheVariants as turn
 use Rattle.domain_core.specs.Turns.{Turns}
 use Rattle.mock_backend.specs.Objects.{Calls, Strikes, Asks, Receives, Learns}
+use Rattle.mock_backend.specs.Turning.{IsMoved}
 use Rattle.mock_backend.proofs.Answered.{front_of_trace}
 use Rattle.mock_backend.proofs.Whole.{cause_behind, whole_ending, whole_raised, whole_stuck, whole_written}
-use Rattle.mock_backend.proofs.Running.{IsMoved, IsWhole, cause_before, grown_has, part_front, part_front_moves, part_moves, part_opens, turn_can_trace, turn_moves, whole_budget, whole_halted, whole_idle, whole_spent, writes_failed}
+use Rattle.mock_backend.proofs.Running.{IsWhole, cause_before, grown_has, part_front, part_front_moves, part_moves, part_opens, turn_can_trace, turn_moves, whole_budget, whole_halted, whole_idle, whole_spent, writes_failed}
 use Rattle.mock_backend.proofs.run.run_domain.Goals as goal
 use Rattle.mock_backend.proofs.run.run_domain.Given.{Over}
 use Rattle.mock_backend.proofs.run.run_domain.Goals.{In-Moved, In-Idle}
