@@ -22,7 +22,7 @@ running-init g c = record {
 
 pub returns-in_err-line-clause-text : goal.returns-in_err-line-clause-text
 returns-in_err-line-clause-text g c =
-    writes_failed _ _ _ _ c.from_residual-in_err-line.ensures.0 (front_of_trace _ _ _ _ (part_front _ _ _ _ _ _ _ c.running.invariant.part))
+    writes_failed _ _ _ _ c.from_residual.ensures.0 (front_of_trace _ _ _ _ (part_front _ _ _ _ _ _ _ c.running.invariant.part))
 
 -- what the turn did, where it made a line
 made_line : (g : Over) (c : In-Moved g) → Turns Calls Strikes Receives Asks Learns c.args.script.now (turn.Moved c.in-Moved.line) c.running.texts c.turn.new.texts c.running.domain c.turn.new.self c.running.objects c.turn.new.objects
