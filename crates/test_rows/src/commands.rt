@@ -20,14 +20,6 @@ use trace_out::{MemSink, MemSource, OpenGate, Status};
 /// More room, in bytes, than any text here needs.
 const ROOM: usize = 1_048_576;
 
-/// A command line with its input, and with what has to be written where a file says so.
-#[derive(Clone, Copy)]
-struct Row<'a> {
-    words: &'a [String],
-    input: &'a str,
-    wanted: Option<&'a str>,
-}
-
 /// How a source and a sink in memory are.
 #[derive(Clone, Copy)]
 struct Devices {
@@ -115,32 +107,47 @@ fn push_end(out: &mut String, status: Status, held: &str, left: usize) -> Result
     out.push('\n')
 }
 
-/// What a row is answered with these devices.
+/// Shows the answer of a run.
+fn push_answer(
+    out: &mut String,
+    held: &[u8],
+    wanted: Option<&str>,
+    status: Status,
+    left: usize,
+) -> Result<(), AllocError> {
+    let held = str::from_utf8(held).unwrap_or("no UTF-8");
+    push_held(out, held, wanted)?;
+    push_end(out, status, held, left)
+}
+
+/// What an input is answered with these devices.
 fn answer_with<R: Threads + Wait + Sync + AllocGlobal>(
     rt: &R,
-    row: Row<'_>,
+    words: &[String],
+    input: &str,
+    wanted: Option<&str>,
     devices: Devices,
 ) -> Result<String, Unanswered> {
-    let mut source = source_of(rt.alloc(), row.input, devices)?;
+    let mut source = source_of(rt.alloc(), input, devices)?;
     let mut sink = sink_of(rt.alloc(), devices)?;
-    let status = eio_run(rt, rt.alloc(), row.words, &mut source, &mut sink, &OpenGate);
-    let held = str::from_utf8(sink.held()).unwrap_or("no UTF-8");
+    let status = eio_run(rt, rt.alloc(), words, &mut source, &mut sink, &OpenGate);
     let mut text = String::new(rt.alloc());
-    push_held(&mut text, held, row.wanted)?;
-    push_end(&mut text, status, held, source.left.len())?;
+    push_answer(&mut text, sink.held(), wanted, status, source.left.len())?;
     Ok(text)
 }
 
-/// Shows the answer to a row, with pieces of different sizes.
+/// Shows the answers to an input in pieces of different sizes, where they differ.
 fn push_answers<R: Threads + Wait + Sync + AllocGlobal>(
     rt: &R,
-    row: Row<'_>,
+    words: &[String],
+    input: &str,
+    wanted: Option<&str>,
     out: &mut String,
 ) -> Result<(), Unanswered> {
-    let first = answer_with(rt, row, sound(4096))?;
+    let first = answer_with(rt, words, input, wanted, sound(4096))?;
     out.push_str(&first)?;
     for most in [7, 1] {
-        let text = answer_with(rt, row, sound(most))?;
+        let text = answer_with(rt, words, input, wanted, sound(most))?;
         if text.as_str() != first.as_str() {
             write!(out, "  in pieces of {most}:\n{text}")?;
         }
@@ -155,38 +162,30 @@ fn answer_to_input<R: Threads + Wait + Sync + AllocGlobal>(
     rest: &str,
     out: &mut String,
 ) -> Result<(), Unanswered> {
-    let row = Row {
-        words,
-        input: rest,
-        wanted: None,
-    };
     if !rest.contains('|') {
-        return push_answers(rt, row, out);
+        return push_answers(rt, words, rest, None, out);
     }
     let (numbers, input) = split_at_bar(rest);
     let devices = devices_in(numbers).ok_or(Unanswered)?;
-    let text = answer_with(rt, Row { input, ..row }, devices)?;
+    let text = answer_with(rt, words, input, None, devices)?;
     out.push_str(&text)?;
     Ok(())
 }
 
-/// The answer to the input in a file, and what has to be written in another one where that is named too.
+/// The answer to the input in a file, where what has to be written may be in another one.
 fn answer_to_file<R: Threads + Wait + Sync + Files + AllocGlobal>(
     rt: &R,
     words: &[String],
     files: &str,
     out: &mut String,
 ) -> Result<(), Unanswered> {
-    let (from, to) = files.split_once('>').unwrap_or((files, ""));
+    let Some((from, to)) = files.split_once('>') else {
+        let input = fs::read_to_string(rt, files.trim())?;
+        return push_answers(rt, words, &input, None, out);
+    };
     let input = fs::read_to_string(rt, from.trim())?;
-    let input = input.as_str();
-    if to.is_empty() {
-        let wanted = None;
-        return push_answers(rt, Row { words, input, wanted }, out);
-    }
     let wanted = fs::read_to_string(rt, to.trim())?;
-    let wanted = Some(wanted.as_str());
-    push_answers(rt, Row { words, input, wanted }, out)
+    push_answers(rt, words, &input, Some(wanted.as_str()), out)
 }
 
 /// The answer to a row.

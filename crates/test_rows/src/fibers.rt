@@ -19,22 +19,17 @@ use script_input::input_script;
 use script_lang::Script;
 use std::alloc::{AllocError, Global};
 
-/// A fiber before the main of a script.
-fn begun(alloc: Global, script: &Script) -> Result<Fiber, Unanswered>
-    ensures { IfOk result (λ fiber. ArePlaced (nodes_of script.now) fiber.items) }
-{
-    script.is_sound();
-    let main = first_node(script, 0);
-    Ok(Fiber::new(alloc, main, Variables::new(Vec::new(alloc)))?)
-}
-
-/// The same where its end resolves a promise.
-fn begun_promising(alloc: Global, script: &Script, promise: u32) -> Result<Fiber, Unanswered>
+/// A fiber before the main of a script; where the row is about a promising one, its end resolves the promise of this number.
+fn begun(alloc: Global, kind: &str, number: i64, script: &Script) -> Result<Fiber, Unanswered>
     ensures { IfOk result (λ fiber. ArePlaced (nodes_of script.now) fiber.items) }
 {
     script.is_sound();
     let main = first_node(script, 0);
     let none = Variables::new(Vec::new(alloc));
+    if kind != "promising" {
+        return Ok(Fiber::new(alloc, main, none)?);
+    }
+    let promise = u32::try_from(number).unwrap_or(0);
     Ok(Fiber::promising(alloc, promise, main, none)?)
 }
 
@@ -103,10 +98,7 @@ fn push_answer(
     out: &mut String,
 ) -> Result<(), Unanswered> {
     let mut texts = script.texts_of(alloc)?;
-    let mut fiber = match kind {
-        "promising" => begun_promising(alloc, script, u32::try_from(number).unwrap_or(0))?,
-        _ => begun(alloc, script)?,
-    };
+    let mut fiber = begun(alloc, kind, number, script)?;
     let call = call_of(kind, number, script, &mut fiber, &mut texts)?;
     match kind {
         "branches" => push_branches(script, &call, out),
@@ -115,7 +107,12 @@ fn push_answer(
 }
 
 /// Shows the call that a mark makes of what came, and how many variables are kept then; or nothing.
-fn push_end(mark: &Mark, came: &Outcome, texts: &Texts, out: &mut String) -> Result<(), Unanswered> {
+fn push_end(
+    mark: &Mark,
+    came: &Outcome,
+    texts: &Texts,
+    out: &mut String,
+) -> Result<(), Unanswered> {
     out.push_str("  ")?;
     match mark.end(came) {
         Some(End { call, keep }) => {

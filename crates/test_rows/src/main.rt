@@ -1,10 +1,10 @@
 //! Rows of tests: a script, or a part of one, and what the library answers to it.
 //!
-//! The program reads rows from standard input, one a line, and writes each of them with the answer below it. The file `stdin` has the
-//! rows, and `stdout` what has to be written. The answers in it weren't taken from this program: they were worked out by hand from the
-//! rules, or another program gave them. A row begins with the word of its kind: `run` (see [`commands`]), `tree`, `spelled` and `build`
-
-//! `promising` and `ends` ([`fibers`]). What stands in brackets is repeated ([`pieces`]).
+//! The program reads rows from standard input, one a line, and writes each of them with its answer below it. The file `stdin` has the
+//! rows, and `stdout` what has to be written. The answers there weren't taken from this program: they were worked out by hand from the
+//! rules, or another program by the same rules gave them. A row begins with the word of its kind, which a module answers: `run`
+//! ([`commands`]); `tree`, `spelled` and `build` ([`trees`]); `script`, `again`, `refused`, `parts`, `text` and `generate` ([`scripts`]);
+//! `first`, `second`, `inner`, `branches`, `promising` and `ends` ([`fibers`]). What stands in braces is repeated ([`pieces`]).
 #![tactic(auto)]
 
 mod commands;
