@@ -1,3 +1,4 @@
+pub mod ObjectsFound
 pub mod DeclarationsRead
 pub mod EntriesRead
 pub mod FlowStepsRead

@@ -17,7 +17,7 @@ use crate::entries::entries;
 use crate::flow_steps::flow_steps;
 use eio_value::{NoMemory, TextId};
 use script_draft::{Cursor, Draft, Kind, Named, Number, Word, named_in, number_within};
-use script_forms::{Decl, Numbers, ScriptFault};
+use script_forms::{Decl, Numbers, ScriptFault, begun};
 use script_model::Feature;
 use std::alloc::Global;
 
@@ -40,21 +40,24 @@ pub(crate) enum Object {
     Dir,
 }
 
+/// What words declare.
+const OBJECTS: [(&[u8], Object); 8] = [
+    (b"stream", Object::Stream),
+    (b"promise", Object::Promise),
+    (b"semaphore", Object::Semaphore),
+    (b"mutex", Object::Mutex),
+    (b"pool", Object::Pool),
+    (b"executor", Object::Executor),
+    (b"flow", Object::Flow),
+    (b"dir", Object::Dir),
+];
+
 /// What a word declares, if anything.
+#[tactic(auto, using(crate::proofs::ObjectsFound::object_found))]
 fn object_of(word: &[u8]) -> Option<Object>
     ensures { option_map form_of result ≡ model.declaration_form_of word.now }
 {
-    match word {
-        b"stream" => Some(Object::Stream),
-        b"promise" => Some(Object::Promise),
-        b"semaphore" => Some(Object::Semaphore),
-        b"mutex" => Some(Object::Mutex),
-        b"pool" => Some(Object::Pool),
-        b"executor" => Some(Object::Executor),
-        b"flow" => Some(Object::Flow),
-        b"dir" => Some(Object::Dir),
-        _ => None,
-    }
+    begun(&OBJECTS, word)
 }
 
 /// What a name stands for that is declared so.
@@ -269,9 +272,9 @@ fn operands(
     ensures reads { Makes declaration_of result (items_read (kind_of (kind_in object)) bodies (ahead cursor.old)) draft.old draft.new }
 {
     match object {
-        Object::Stream => Ok(Decl::Stream(only_number(cursor, 0, 1024)?)),
-        Object::Semaphore => Ok(Decl::Semaphore(only_number(cursor, 0, 1_000_000)?)),
-        Object::Pool => Ok(Decl::Pool(only_number(cursor, 1, 64)?)),
+        Object::Stream => only_number(cursor, 0, 1024).map(Decl::Stream),
+        Object::Semaphore => only_number(cursor, 0, 1_000_000).map(Decl::Semaphore),
+        Object::Pool => only_number(cursor, 1, 64).map(Decl::Pool),
         Object::Promise => {
             cursor.close();
             Ok(Decl::Promise)
@@ -280,9 +283,9 @@ fn operands(
             cursor.close();
             Ok(Decl::Mutex)
         }
-        Object::Executor => Ok(Decl::Executor(workers(cursor, draft.alloc(), bodies)?)),
-        Object::Flow => Ok(Decl::Flow(flow_steps(cursor, draft)?)),
-        Object::Dir => Ok(Decl::Dir(entries(cursor, draft)?)),
+        Object::Executor => workers(cursor, draft.alloc(), bodies).map(Decl::Executor),
+        Object::Flow => flow_steps(cursor, draft).map(Decl::Flow),
+        Object::Dir => entries(cursor, draft).map(Decl::Dir),
     }
 }
 

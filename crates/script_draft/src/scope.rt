@@ -106,6 +106,24 @@ impl<'t, 'd> Scope<'t, 'd> {
         })
     }
 
+    /// The same names and a new one, which is the word that comes next, for a block inside.
+    ///
+    /// # Errors
+    /// Those of [`Scope::bring`].
+    pub fn with_name(
+        &self,
+        kind: Kind,
+        cursor: &mut Cursor<'t>,
+    ) -> Result<Scope<'t, 'd>, ScriptFault>
+        requires { has_tree cursor.old ≡ true }
+        ensures past { IfOk result (λ _. IsPast cursor.old cursor.new) }
+        ensures reads { Finds (λ inner. inner) result (model.bring (kind_of kind) self.now (tree_ahead cursor.old)) }
+    {
+        let mut inner = self.inner()?;
+        inner.bring(kind, cursor)?;
+        Ok(inner)
+    }
+
     /// What its names are allocated by.
     pub fn alloc(&self) -> Global {
         self.alloc
@@ -139,7 +157,7 @@ impl<'t, 'd> Scope<'t, 'd> {
     ///
     /// # Errors
     /// `Shape` where no word comes next, `Size` where as many names are in scope as may be, `Twice` where the name is taken.
-    pub fn bring(&mut self, kind: Kind, cursor: &mut Cursor<'t>) -> Result<(), ScriptFault>
+    fn bring(&mut self, kind: Kind, cursor: &mut Cursor<'t>) -> Result<(), ScriptFault>
         requires { has_tree cursor.old ≡ true }
         ensures past { IfOk result (λ _. IsPast cursor.old cursor.new) }
         ensures reads { Brings result (kind_of kind) self.old self.new (tree_ahead cursor.old) }

@@ -1,1 +1,2 @@
+pub mod WordsFound
 pub mod FormsFound

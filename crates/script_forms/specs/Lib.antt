@@ -2,5 +2,5 @@ pub mod Calls
 pub mod Declaring
 pub mod Faults
 pub mod Flat
-pub mod FormGroups
 pub mod Heads
+pub mod Words

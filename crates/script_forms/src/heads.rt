@@ -1,10 +1,10 @@
 //! The words of forms: what each begins, how many items stand behind it, and which form is read where.
 
-ghost use Rattle.std.specs.Prelude.{◌≡◌, IsTrue, option_map};
+ghost use Rattle.std.specs.Prelude.{◌≡◌, IsTrue, map, option_map};
 ghost use Rattle.std.specs.Str.{bytes_eq};
 ghost use Rattle.script_model.specs.Forms.{form_of};
-ghost use Rattle.script_forms.specs.FormGroups.{form_in, control_forms, fiber_forms, context_forms, fork_forms, group_forms, stream_forms, promise_forms, resource_forms, flow_forms, path_forms};
 ghost use Rattle.script_forms.specs.Heads.{form_seen, arity_of, shape_of};
+ghost use Rattle.script_forms.specs.Words.{begun, seen};
 
 use crate::node::{Group, ObjectCall, ObjectCallWith, PathCall, ReaderCall};
 use script_model::Feature;
@@ -87,38 +87,262 @@ pub enum Shape {
     Leaf,
 }
 
+/// What the words of forms begin: the head, whether it gives a value, whether it is for the mocked domain alone, and its feature.
+const FORMS: [(&[u8], (Head, bool, bool, Feature)); 59] = [
+    (b"let", (Head::Let, false, false, Feature::Exceptions)),
+    (b"if", (Head::If, false, false, Feature::Exceptions)),
+    (b"give", (Head::Give, false, false, Feature::Exceptions)),
+    (b"raise", (Head::Raise, false, false, Feature::Exceptions)),
+    (b"try", (Head::Try, true, false, Feature::Exceptions)),
+    (b"repeat", (Head::Repeat, false, false, Feature::Exceptions)),
+    (b"loop", (Head::Loop, false, false, Feature::Exceptions)),
+    (b"trace", (Head::Trace, false, false, Feature::FirstForms)),
+    (b"yield", (Head::Yield, false, false, Feature::FirstForms)),
+    (b"check", (Head::Check, false, false, Feature::Exceptions)),
+    (
+        b"await-cancel",
+        (Head::AwaitCancel, false, false, Feature::Exceptions),
+    ),
+    (b"sub", (Head::Sub, true, false, Feature::Exceptions)),
+    (
+        b"protect",
+        (Head::Protect, true, false, Feature::Exceptions),
+    ),
+    (b"cancel", (Head::Cancel, false, false, Feature::Exceptions)),
+    (b"switch", (Head::Switch, true, false, Feature::FirstForms)),
+    (b"fork", (Head::Fork, false, false, Feature::FirstForms)),
+    (
+        b"fork-daemon",
+        (Head::ForkDaemon, false, false, Feature::Switches),
+    ),
+    (
+        b"fork-promise",
+        (Head::ForkPromise, false, false, Feature::StreamsAndPromises),
+    ),
+    (b"fail", (Head::Fail, false, false, Feature::Switches)),
+    (
+        b"on-release",
+        (Head::OnRelease, false, false, Feature::Switches),
+    ),
+    (
+        b"both",
+        (Head::Pair(Group::Both), false, false, Feature::Groups),
+    ),
+    (
+        b"all",
+        (Head::Row(Group::All), false, false, Feature::Groups),
+    ),
+    (
+        b"first",
+        (Head::Pair(Group::First), true, false, Feature::Groups),
+    ),
+    (
+        b"any",
+        (Head::Row(Group::Any), true, false, Feature::Groups),
+    ),
+    (
+        b"add",
+        (
+            Head::ObjectWith(ObjectCallWith::Add),
+            false,
+            false,
+            Feature::StreamsAndPromises,
+        ),
+    ),
+    (
+        b"take",
+        (
+            Head::Object(ObjectCall::Take),
+            true,
+            false,
+            Feature::StreamsAndPromises,
+        ),
+    ),
+    (
+        b"take-nonblocking",
+        (
+            Head::Object(ObjectCall::TakeNonblocking),
+            true,
+            false,
+            Feature::StreamsAndPromises,
+        ),
+    ),
+    (
+        b"length",
+        (
+            Head::Object(ObjectCall::Length),
+            true,
+            false,
+            Feature::StreamsAndPromises,
+        ),
+    ),
+    (
+        b"resolve",
+        (
+            Head::ObjectWith(ObjectCallWith::Resolve),
+            false,
+            false,
+            Feature::StreamsAndPromises,
+        ),
+    ),
+    (
+        b"try-resolve",
+        (
+            Head::ObjectWith(ObjectCallWith::TryResolve),
+            true,
+            false,
+            Feature::StreamsAndPromises,
+        ),
+    ),
+    (
+        b"await",
+        (
+            Head::Object(ObjectCall::Await),
+            true,
+            false,
+            Feature::StreamsAndPromises,
+        ),
+    ),
+    (
+        b"acquire",
+        (
+            Head::Object(ObjectCall::Acquire),
+            false,
+            false,
+            Feature::Resources,
+        ),
+    ),
+    (
+        b"release",
+        (
+            Head::Object(ObjectCall::Release),
+            false,
+            false,
+            Feature::Resources,
+        ),
+    ),
+    (
+        b"lock",
+        (
+            Head::Object(ObjectCall::Lock),
+            false,
+            false,
+            Feature::Resources,
+        ),
+    ),
+    (
+        b"try-lock",
+        (
+            Head::Object(ObjectCall::TryLock),
+            true,
+            false,
+            Feature::Resources,
+        ),
+    ),
+    (
+        b"unlock",
+        (
+            Head::Object(ObjectCall::Unlock),
+            false,
+            false,
+            Feature::Resources,
+        ),
+    ),
+    (b"use-rw", (Head::UseRw, true, false, Feature::Resources)),
+    (
+        b"use-pool",
+        (Head::UsePool, true, false, Feature::Resources),
+    ),
+    (b"submit", (Head::Submit, true, false, Feature::Executors)),
+    (b"sleep", (Head::Sleep, false, true, Feature::Resources)),
+    (b"now", (Head::Now, true, true, Feature::Resources)),
+    (b"buf-read", (Head::BufRead, true, true, Feature::Flows)),
+    (
+        b"line",
+        (Head::Reader(ReaderCall::Line), true, true, Feature::Flows),
+    ),
+    (b"take-bytes", (Head::TakeBytes, true, true, Feature::Flows)),
+    (
+        b"take-all",
+        (
+            Head::Reader(ReaderCall::TakeAll),
+            true,
+            true,
+            Feature::Flows,
+        ),
+    ),
+    (
+        b"char",
+        (Head::Reader(ReaderCall::Char), true, true, Feature::Flows),
+    ),
+    (
+        b"at-end",
+        (Head::Reader(ReaderCall::AtEnd), true, true, Feature::Flows),
+    ),
+    (b"copy", (Head::Copy, false, true, Feature::Flows)),
+    (b"buf-write", (Head::BufWrite, true, true, Feature::Flows)),
+    (b"put", (Head::Put, false, true, Feature::Flows)),
+    (b"open-dir", (Head::OpenDir, true, true, Feature::Paths)),
+    (
+        b"load",
+        (Head::Path(PathCall::Load), true, true, Feature::Paths),
+    ),
+    (
+        b"save",
+        (Head::Save { only_new: false }, false, true, Feature::Paths),
+    ),
+    (
+        b"save-new",
+        (Head::Save { only_new: true }, false, true, Feature::Paths),
+    ),
+    (
+        b"mkdir",
+        (Head::Path(PathCall::Mkdir), false, true, Feature::Paths),
+    ),
+    (
+        b"read-dir",
+        (Head::Path(PathCall::ReadDir), true, true, Feature::Paths),
+    ),
+    (
+        b"unlink",
+        (Head::Path(PathCall::Unlink), false, true, Feature::Paths),
+    ),
+    (
+        b"rmdir",
+        (Head::Path(PathCall::Rmdir), false, true, Feature::Paths),
+    ),
+    (
+        b"kind",
+        (Head::Path(PathCall::Kind), true, true, Feature::Paths),
+    ),
+];
+
 /// The form that a word begins, if it begins one.
 pub fn form_of(word: &[u8]) -> Option<Form>
     ensures { option_map (form_seen word.now) result ≡ form_of word.now }
 {
-    if let Some(it) = control_form(word) {
-        return Some(it);
+    let Some((head, gives, mocked, feature)) = begun(&FORMS, word) else {
+        return None;
+    };
+    Some(Form {
+        head,
+        gives,
+        mocked,
+        feature,
+    })
+}
+
+/// What a word begins by a table of words, if anything.
+pub fn begun<T: Copy>(mut table: &[(&[u8], T)], word: &[u8]) -> Option<T>
+    ensures { result ≡ begun word.now (map seen table.entry.now) }
+{
+    while let [row, rest @ ..] = table {
+        if row.0 == word {
+            return Some(row.1);
+        }
+        table = rest;
     }
-    if let Some(it) = fiber_form(word) {
-        return Some(it);
-    }
-    if let Some(it) = context_form(word) {
-        return Some(it);
-    }
-    if let Some(it) = fork_form(word) {
-        return Some(it);
-    }
-    if let Some(it) = group_form(word) {
-        return Some(it);
-    }
-    if let Some(it) = stream_form(word) {
-        return Some(it);
-    }
-    if let Some(it) = promise_form(word) {
-        return Some(it);
-    }
-    if let Some(it) = resource_form(word) {
-        return Some(it);
-    }
-    if let Some(it) = flow_form(word) {
-        return Some(it);
-    }
-    path_form(word)
+    None
 }
 
 /// Whether a word is this one.
@@ -128,334 +352,6 @@ pub fn is_word(word: &[u8], this: &[u8]) -> bool
     ensures same { IsTrue result → word.now ≡ this.now }
 {
     this == word
-}
-
-/// Names, branches, exceptions and loops.
-fn control_form(word: &[u8]) -> Option<Form>
-    ensures { option_map (form_seen word.now) result ≡ form_in control_forms word.now }
-{
-    let (head, gives, mocked, feature) = match word {
-        b"let" => (Head::Let, false, false, Feature::Exceptions),
-        b"if" => (Head::If, false, false, Feature::Exceptions),
-        b"give" => (Head::Give, false, false, Feature::Exceptions),
-        b"raise" => (Head::Raise, false, false, Feature::Exceptions),
-        b"try" => (Head::Try, true, false, Feature::Exceptions),
-        b"repeat" => (Head::Repeat, false, false, Feature::Exceptions),
-        b"loop" => (Head::Loop, false, false, Feature::Exceptions),
-        _ => return None,
-    };
-    Some(Form {
-        head,
-        gives,
-        mocked,
-        feature,
-    })
-}
-
-/// What a fiber does alone.
-fn fiber_form(word: &[u8]) -> Option<Form>
-    ensures { option_map (form_seen word.now) result ≡ form_in fiber_forms word.now }
-{
-    let (head, gives, mocked, feature) = match word {
-        b"trace" => (Head::Trace, false, false, Feature::FirstForms),
-        b"yield" => (Head::Yield, false, false, Feature::FirstForms),
-        b"check" => (Head::Check, false, false, Feature::Exceptions),
-        _ => return None,
-    };
-    Some(Form {
-        head,
-        gives,
-        mocked,
-        feature,
-    })
-}
-
-/// Cancellation, its contexts, and switches.
-fn context_form(word: &[u8]) -> Option<Form>
-    ensures { option_map (form_seen word.now) result ≡ form_in context_forms word.now }
-{
-    if is_word(word, b"await-cancel") {
-        return Some(Form {
-            head: Head::AwaitCancel,
-            gives: false,
-            mocked: false,
-            feature: Feature::Exceptions,
-        });
-    }
-    if is_word(word, b"sub") {
-        return Some(Form {
-            head: Head::Sub,
-            gives: true,
-            mocked: false,
-            feature: Feature::Exceptions,
-        });
-    }
-    if is_word(word, b"protect") {
-        return Some(Form {
-            head: Head::Protect,
-            gives: true,
-            mocked: false,
-            feature: Feature::Exceptions,
-        });
-    }
-    if is_word(word, b"cancel") {
-        return Some(Form {
-            head: Head::Cancel,
-            gives: false,
-            mocked: false,
-            feature: Feature::Exceptions,
-        });
-    }
-    if is_word(word, b"switch") {
-        return Some(Form {
-            head: Head::Switch,
-            gives: true,
-            mocked: false,
-            feature: Feature::FirstForms,
-        });
-    }
-    None
-}
-
-/// Fibers of a switch, its failure and its release.
-fn fork_form(word: &[u8]) -> Option<Form>
-    ensures { option_map (form_seen word.now) result ≡ form_in fork_forms word.now }
-{
-    if is_word(word, b"fork") {
-        return Some(Form {
-            head: Head::Fork,
-            gives: false,
-            mocked: false,
-            feature: Feature::FirstForms,
-        });
-    }
-    if is_word(word, b"fork-daemon") {
-        return Some(Form {
-            head: Head::ForkDaemon,
-            gives: false,
-            mocked: false,
-            feature: Feature::Switches,
-        });
-    }
-    if is_word(word, b"fork-promise") {
-        return Some(Form {
-            head: Head::ForkPromise,
-            gives: false,
-            mocked: false,
-            feature: Feature::StreamsAndPromises,
-        });
-    }
-    if is_word(word, b"fail") {
-        return Some(Form {
-            head: Head::Fail,
-            gives: false,
-            mocked: false,
-            feature: Feature::Switches,
-        });
-    }
-    if is_word(word, b"on-release") {
-        return Some(Form {
-            head: Head::OnRelease,
-            gives: false,
-            mocked: false,
-            feature: Feature::Switches,
-        });
-    }
-    None
-}
-
-/// Groups of fibers.
-fn group_form(word: &[u8]) -> Option<Form>
-    ensures { option_map (form_seen word.now) result ≡ form_in group_forms word.now }
-{
-    let (head, gives, mocked, feature) = match word {
-        b"both" => (Head::Pair(Group::Both), false, false, Feature::Groups),
-        b"all" => (Head::Row(Group::All), false, false, Feature::Groups),
-        b"first" => (Head::Pair(Group::First), true, false, Feature::Groups),
-        b"any" => (Head::Row(Group::Any), true, false, Feature::Groups),
-        _ => return None,
-    };
-    Some(Form {
-        head,
-        gives,
-        mocked,
-        feature,
-    })
-}
-
-/// Calls on streams.
-fn stream_form(word: &[u8]) -> Option<Form>
-    ensures { option_map (form_seen word.now) result ≡ form_in stream_forms word.now }
-{
-    if is_word(word, b"add") {
-        return Some(Form {
-            head: Head::ObjectWith(ObjectCallWith::Add),
-            gives: false,
-            mocked: false,
-            feature: Feature::StreamsAndPromises,
-        });
-    }
-    if is_word(word, b"take") {
-        return Some(Form {
-            head: Head::Object(ObjectCall::Take),
-            gives: true,
-            mocked: false,
-            feature: Feature::StreamsAndPromises,
-        });
-    }
-    if is_word(word, b"take-nonblocking") {
-        return Some(Form {
-            head: Head::Object(ObjectCall::TakeNonblocking),
-            gives: true,
-            mocked: false,
-            feature: Feature::StreamsAndPromises,
-        });
-    }
-    if is_word(word, b"length") {
-        return Some(Form {
-            head: Head::Object(ObjectCall::Length),
-            gives: true,
-            mocked: false,
-            feature: Feature::StreamsAndPromises,
-        });
-    }
-    None
-}
-
-/// Calls on promises.
-fn promise_form(word: &[u8]) -> Option<Form>
-    ensures { option_map (form_seen word.now) result ≡ form_in promise_forms word.now }
-{
-    let (head, gives, mocked, feature) = match word {
-        b"resolve" => (
-            Head::ObjectWith(ObjectCallWith::Resolve),
-            false,
-            false,
-            Feature::StreamsAndPromises,
-        ),
-        b"try-resolve" => (
-            Head::ObjectWith(ObjectCallWith::TryResolve),
-            true,
-            false,
-            Feature::StreamsAndPromises,
-        ),
-        b"await" => (
-            Head::Object(ObjectCall::Await),
-            true,
-            false,
-            Feature::StreamsAndPromises,
-        ),
-        _ => return None,
-    };
-    Some(Form {
-        head,
-        gives,
-        mocked,
-        feature,
-    })
-}
-
-/// Calls on semaphores, mutexes, pools and executors.
-fn resource_form(word: &[u8]) -> Option<Form>
-    ensures { option_map (form_seen word.now) result ≡ form_in resource_forms word.now }
-{
-    let (head, gives, mocked, feature) = match word {
-        b"acquire" => (
-            Head::Object(ObjectCall::Acquire),
-            false,
-            false,
-            Feature::Resources,
-        ),
-        b"release" => (
-            Head::Object(ObjectCall::Release),
-            false,
-            false,
-            Feature::Resources,
-        ),
-        b"lock" => (
-            Head::Object(ObjectCall::Lock),
-            false,
-            false,
-            Feature::Resources,
-        ),
-        b"try-lock" => (
-            Head::Object(ObjectCall::TryLock),
-            true,
-            false,
-            Feature::Resources,
-        ),
-        b"unlock" => (
-            Head::Object(ObjectCall::Unlock),
-            false,
-            false,
-            Feature::Resources,
-        ),
-        b"use-rw" => (Head::UseRw, true, false, Feature::Resources),
-        b"use-pool" => (Head::UsePool, true, false, Feature::Resources),
-        b"submit" => (Head::Submit, true, false, Feature::Executors),
-        _ => return None,
-    };
-    Some(Form {
-        head,
-        gives,
-        mocked,
-        feature,
-    })
-}
-
-/// The clock, and calls on flows.
-fn flow_form(word: &[u8]) -> Option<Form>
-    ensures { option_map (form_seen word.now) result ≡ form_in flow_forms word.now }
-{
-    let (head, gives, mocked, feature) = match word {
-        b"sleep" => (Head::Sleep, false, true, Feature::Resources),
-        b"now" => (Head::Now, true, true, Feature::Resources),
-        b"buf-read" => (Head::BufRead, true, true, Feature::Flows),
-        b"line" => (Head::Reader(ReaderCall::Line), true, true, Feature::Flows),
-        b"take-bytes" => (Head::TakeBytes, true, true, Feature::Flows),
-        b"take-all" => (
-            Head::Reader(ReaderCall::TakeAll),
-            true,
-            true,
-            Feature::Flows,
-        ),
-        b"char" => (Head::Reader(ReaderCall::Char), true, true, Feature::Flows),
-        b"at-end" => (Head::Reader(ReaderCall::AtEnd), true, true, Feature::Flows),
-        b"copy" => (Head::Copy, false, true, Feature::Flows),
-        b"buf-write" => (Head::BufWrite, true, true, Feature::Flows),
-        b"put" => (Head::Put, false, true, Feature::Flows),
-        _ => return None,
-    };
-    Some(Form {
-        head,
-        gives,
-        mocked,
-        feature,
-    })
-}
-
-/// Calls on paths.
-fn path_form(word: &[u8]) -> Option<Form>
-    ensures { option_map (form_seen word.now) result ≡ form_in path_forms word.now }
-{
-    let (head, gives, mocked, feature) = match word {
-        b"open-dir" => (Head::OpenDir, true, true, Feature::Paths),
-        b"load" => (Head::Path(PathCall::Load), true, true, Feature::Paths),
-        b"save" => (Head::Save { only_new: false }, false, true, Feature::Paths),
-        b"save-new" => (Head::Save { only_new: true }, false, true, Feature::Paths),
-        b"mkdir" => (Head::Path(PathCall::Mkdir), false, true, Feature::Paths),
-        b"read-dir" => (Head::Path(PathCall::ReadDir), true, true, Feature::Paths),
-        b"unlink" => (Head::Path(PathCall::Unlink), false, true, Feature::Paths),
-        b"rmdir" => (Head::Path(PathCall::Rmdir), false, true, Feature::Paths),
-        b"kind" => (Head::Path(PathCall::Kind), true, true, Feature::Paths),
-        _ => return None,
-    };
-    Some(Form {
-        head,
-        gives,
-        mocked,
-        feature,
-    })
 }
 
 /// How many items stand behind the word of a form.

@@ -11,7 +11,7 @@ mod node;
 
 pub use declaration::{Decl, FlowSteps};
 pub use fault::ScriptFault;
-pub use heads::{Arity, Form, Head, Shape, arity_of, form_of, is_word, shape_of};
+pub use heads::{Arity, Form, Head, Shape, arity_of, begun, form_of, is_word, shape_of};
 pub use node::{
     Directory, Forking, Group, Node, Numbers, ObjectCall, ObjectCallWith, Operator, PathCall,
     ReaderCall,

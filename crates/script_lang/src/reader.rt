@@ -7,12 +7,15 @@ ghost use Rattle.script_model.specs.Scripts.{script_of, items_behind, body_scope
 ghost use Rattle.script_model.specs.Trees.{Trees};
 ghost use Rattle.script_draft.specs.Ahead.{ahead, has_tree, tree_ahead, IsPast};
 ghost use Rattle.script_statements.specs.Blocks.{Blocked};
-ghost use Rattle.script_declarations.specs.DeclarationsRead.{IsAtMain, is_main};
+ghost use Rattle.script_declarations.specs.DeclarationsRead.{declared_of, IsAtMain, is_main};
+ghost use Rattle.script_draft.specs.Drafts.{nothing_drafted};
 ghost use Rattle.script_forms.specs.declared.fault.ScriptFault.TheVariants.{NoMemory};
 ghost use Rattle.script_forms.specs.Faults.{Fails};
+ghost use Rattle.script_lang.specs.ScriptInside.{IsRead};
 ghost use Rattle.script_lang.specs.ScriptsRead.{domain_of, one_if, Bodied, Roots, Names};
 
 use crate::script::{Parts, Script};
+use eio_value::NoMemory;
 use script_declarations::declarations::{Declared, declarations as read_declarations, is_at_end};
 use script_draft::{Cursor, Draft, Scope};
 use script_forms::{ScriptFault, is_word};
@@ -31,26 +34,55 @@ pub fn read_script(alloc: Global, tree: &Tree) -> Result<Script, ScriptFault>
     ensures ok { IfOk result (λ script. script_of tree.now ≡ Ok script) }
     ensures fault { IfErr result (λ fault. Fails fault (script_of tree.now)) }
 {
+    let mut draft = Draft::new(alloc);
+    let parts = read_parts(tree, &mut draft)?;
+    Ok(Script::new(parts, draft)?)
+}
+
+/// The parts of the script that a tree stands for, beside what goes into the draft, in which nothing stands yet.
+fn read_parts(tree: &Tree, draft: &mut Draft) -> Result<Parts, ScriptFault>
+    requires { draft.old ≡ nothing_drafted }
+    ensures tree { IfOk result (λ parts. parts.tree ≡ tree.now) }
+    ensures read { IfOk result (λ parts. IsRead parts draft.new) }
+    ensures fault { IfErr result (λ fault. Fails fault (script_of tree.now)) }
+{
     let mut cursor = Cursor::new(tree.nodes());
     let count = root(&mut cursor)?;
-    let mut draft = Draft::new(alloc);
-    let declared = read_declarations(&mut cursor, &mut draft, count)?;
-    let Declared {
-        names,
-        declarations,
-        scope: named,
-    } = declared;
-    let scope = Scope::new(alloc, &named);
+    let declared = read_declarations(&mut cursor, draft, count)?;
+    let bodies = bodies_behind(&cursor, draft, &declared)?;
+    Ok(parts_of(tree, draft.alloc(), declared, bodies)?)
+}
+
+/// The bodies behind these declarations, of which main comes next.
+fn bodies_behind<'t>(
+    cursor: &Cursor<'t>,
+    draft: &mut Draft,
+    declared: &Declared<'t>,
+) -> Result<Bodies, ScriptFault>
+    requires { is_main (tree_ahead cursor.now) ≡ true }
+    ensures { Bodied result (declared_of declared.now) (ahead cursor.now) draft.old draft.new }
+{
+    let scope = Scope::new(draft.alloc(), &declared.scope);
     let mut rest = cursor.again();
-    let read = read_bodies(&mut rest, &mut draft, &scope)?;
-    let parts = Parts {
+    read_bodies(&mut rest, draft, &scope)
+}
+
+/// The parts of a script that was read from this tree.
+fn parts_of(
+    tree: &Tree,
+    alloc: Global,
+    declared: Declared,
+    bodies: Bodies,
+) -> Result<Parts, NoMemory>
+    ensures { IfOk result (λ parts. parts ≡ record { tree = tree.now; names = declared.entry.names; declarations = declared.entry.declarations; bodies = bodies.numbers; first_domain = bodies.first_domain }) }
+{
+    Ok(Parts {
         tree: tree.copy(alloc)?,
-        names,
-        declarations,
-        bodies: read.numbers,
-        first_domain: read.first_domain,
-    };
-    Ok(Script::new(parts, draft)?)
+        names: declared.names,
+        declarations: declared.declarations,
+        bodies: bodies.numbers,
+        first_domain: bodies.first_domain,
+    })
 }
 
 /// What stands before the declarations; how many bodies a worker may name.

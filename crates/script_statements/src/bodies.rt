@@ -151,8 +151,7 @@ fn naming_body<'t, 'd>(
     ensures form { IfOk result (λ it. it.form ≡ form) }
     ensures name { Names result (kind_of kind) scope.now (tree_ahead cursor.old) }
 {
-    let mut inner = scope.inner()?;
-    inner.bring(kind, cursor)?;
+    let inner = scope.with_name(kind, cursor)?;
     Ok(Opened { form, inner })
 }
 
@@ -166,8 +165,7 @@ fn repeat_body<'t, 'd>(
     ensures within { IfOk result (λ _. IsWithin cursor.old cursor.new) }
     ensures reads { (last : Bool) (at : ℕ) (word : Tree) → Opens result (model.form scope.now last at forms.RepeatHead (And word (ahead cursor.old))) scope.now (ahead cursor.new) draft.old draft.new }
 {
-    let mut inner = scope.inner()?;
-    inner.bring(Kind::Variable, cursor)?;
+    let inner = scope.with_name(Kind::Variable, cursor)?;
     item(cursor, draft, scope, false)?;
     Ok(Opened {
         form: BodyForm::Repeat,
@@ -252,8 +250,7 @@ fn use_pool_body<'t, 'd>(
     ensures reads { (d : Drafted) (last : Bool) (at : ℕ) (word : Tree) → Opens result (model.form scope.now last at forms.UsePoolHead (And word (ahead cursor.old))) scope.now (ahead cursor.new) d d }
 {
     let pool = scope.used(Kind::Pool, cursor)?;
-    let mut inner = scope.inner()?;
-    inner.bring(Kind::Variable, cursor)?;
+    let inner = scope.with_name(Kind::Variable, cursor)?;
     Ok(Opened {
         form: BodyForm::UsePool(pool),
         inner,
@@ -287,8 +284,7 @@ fn buf_read_body<'t, 'd>(
     ensures within { IfOk result (λ _. IsWithin cursor.old cursor.new) }
     ensures reads { (d : Drafted) (last : Bool) (at : ℕ) (word : Tree) → Opens result (model.form scope.now last at forms.BufReadHead (And word (ahead cursor.old))) scope.now (ahead cursor.new) d d }
 {
-    let mut inner = scope.inner()?;
-    inner.bring(Kind::Reader, cursor)?;
+    let inner = scope.with_name(Kind::Reader, cursor)?;
     let flow = scope.used(Kind::Flow, cursor)?;
     let limit = number_within(cursor, 1, 65536)?;
     Ok(Opened {
@@ -306,8 +302,7 @@ fn buf_write_body<'t, 'd>(
     ensures within { IfOk result (λ _. IsWithin cursor.old cursor.new) }
     ensures reads { (d : Drafted) (last : Bool) (at : ℕ) (word : Tree) → Opens result (model.form scope.now last at forms.BufWriteHead (And word (ahead cursor.old))) scope.now (ahead cursor.new) d d }
 {
-    let mut inner = scope.inner()?;
-    inner.bring(Kind::Writer, cursor)?;
+    let inner = scope.with_name(Kind::Writer, cursor)?;
     let flow = scope.used(Kind::Flow, cursor)?;
     Ok(Opened {
         form: BodyForm::BufWrite(flow),
@@ -327,8 +322,7 @@ fn open_dir_body<'t, 'd>(
 {
     let directory = scope.directory(cursor)?;
     item(cursor, draft, scope, false)?;
-    let mut inner = scope.inner()?;
-    inner.bring(Kind::Capability, cursor)?;
+    let inner = scope.with_name(Kind::Capability, cursor)?;
     Ok(Opened {
         form: BodyForm::OpenDir(directory),
         inner,

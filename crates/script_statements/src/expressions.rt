@@ -13,7 +13,7 @@ ghost use Rattle.script_forms.specs.declared.fault.ScriptFault.TheVariants.{NoMe
 ghost use Rattle.script_draft.specs.Readings.{Grows};
 
 use script_draft::{Cursor, Draft, Kind, Scope, Word};
-use script_forms::{Node, Operator, ScriptFault};
+use script_forms::{Node, Operator, ScriptFault, begun};
 use script_model::Feature;
 
 /// What an expression's word begins.
@@ -23,18 +23,21 @@ pub(crate) enum ExpressionHead {
     Operator(Operator),
 }
 
+/// What the words of expressions begin.
+const EXPRESSIONS: [(&[u8], ExpressionHead); 5] = [
+    (b"unit", ExpressionHead::Unit),
+    (b"plus", ExpressionHead::Operator(Operator::Plus)),
+    (b"minus", ExpressionHead::Operator(Operator::Minus)),
+    (b"same", ExpressionHead::Operator(Operator::Same)),
+    (b"less", ExpressionHead::Operator(Operator::Less)),
+];
+
 /// What a word begins, if it begins an expression.
+#[tactic(auto, using(crate::proofs::ExpressionsFound::expression_found))]
 fn expression_head(word: &[u8]) -> Option<ExpressionHead>
     ensures { option_map expression_head_of result ≡ expression_head word.now }
 {
-    match word {
-        b"unit" => Some(ExpressionHead::Unit),
-        b"plus" => Some(ExpressionHead::Operator(Operator::Plus)),
-        b"minus" => Some(ExpressionHead::Operator(Operator::Minus)),
-        b"same" => Some(ExpressionHead::Operator(Operator::Same)),
-        b"less" => Some(ExpressionHead::Operator(Operator::Less)),
-        _ => None,
-    }
+    begun(&EXPRESSIONS, word)
 }
 
 /// A number, a text, or a variable.

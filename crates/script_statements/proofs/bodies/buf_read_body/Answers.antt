@@ -9,30 +9,30 @@ use Rattle.script_draft.proofs.Steps.{fails_first}
 use Rattle.script_forms.specs.declared.node.Node.TheVariants as node
 use Rattle.script_statements.proofs.bodies.buf_read_body.Goals as goal
 
-pub returns-in_err-bring-clause-reads : goal.returns-in_err-bring-clause-reads
+pub returns-in_err-inner-clause-reads : goal.returns-in_err-inner-clause-reads
 unfolding form
-returns-in_err-bring-clause-reads c =
-    let p = err_from_is_err_and c.from_residual-in_err-bring.result c.from_residual-in_err-bring.ensures.1 in
-    rw (p.1, p.2) (λ d last at word. rw (three_before c.args.cursor.now c.requires) (fails_first _ _ _ ((rw c.in_ok-inner.ensures at c.in_err-bring.ensures.reads) (made_of d))))
+returns-in_err-inner-clause-reads c =
+    let p = err_from_is_err_and c.from_residual.result c.from_residual.ensures.1 in
+    rw (p.1, p.2) (λ d last at word. rw (three_before c.args.cursor.now c.requires) (fails_first _ _ _ (c.in_err-inner.ensures.reads (made_of d))))
 
 pub returns-in_err-flow-clause-reads : goal.returns-in_err-flow-clause-reads
 unfolding form
 returns-in_err-flow-clause-reads c =
     let p = err_from_is_err_and c.from_residual-in_err-flow.result c.from_residual-in_err-flow.ensures.1 in
-    rw (p.1, p.2) (λ d last at word. rw (three_after_one c.args.cursor.now c.bring.new.cursor c.requires c.in_ok-bring.ensures.past, (rw c.in_ok-inner.ensures at c.in_ok-bring.ensures.reads) (made_of d)) (fails_first _ _ _ (c.in_err-flow.ensures.reads (made_of d))))
+    rw (p.1, p.2) (λ d last at word. rw (three_after_one c.args.cursor.now c.with_name.new.cursor c.requires c.in_ok-inner.ensures.past, c.in_ok-inner.ensures.reads (made_of d)) (fails_first _ _ _ (c.in_err-flow.ensures.reads (made_of d))))
 
 pub returns-in_err-limit-clause-reads : goal.returns-in_err-limit-clause-reads
 unfolding form
 returns-in_err-limit-clause-reads c =
     let p = err_from_is_err_and c.from_residual-in_err-limit.result c.from_residual-in_err-limit.ensures.1 in
-    rw (p.1, p.2) (λ d last at word. rw (three_after_two c.args.cursor.now c.bring.new.cursor c.used.new.cursor c.requires c.in_ok-bring.ensures.past c.in_ok-flow.ensures.past, (rw c.in_ok-inner.ensures at c.in_ok-bring.ensures.reads) (made_of d), c.in_ok-flow.ensures.reads (made_of d)) (fails_first _ _ _ (c.in_err-limit.ensures.reads (made_of d))))
+    rw (p.1, p.2) (λ d last at word. rw (three_after_two c.args.cursor.now c.with_name.new.cursor c.used.new.cursor c.requires c.in_ok-inner.ensures.past c.in_ok-flow.ensures.past, c.in_ok-inner.ensures.reads (made_of d), c.in_ok-flow.ensures.reads (made_of d)) (fails_first _ _ _ (c.in_err-limit.ensures.reads (made_of d))))
 
 pub returns-clause-reads : goal.returns-clause-reads
 unfolding form flat_statement
 returns-clause-reads c = λ d last at word. record {
   make = λ body. syntax.BufRead c.in_ok-flow.flow c.in_ok-limit.limit body;
   between = [];
-  gives = rw (three_behind c.args.cursor.now c.bring.new.cursor c.used.new.cursor c.number_within.new.cursor c.requires c.in_ok-bring.ensures.past c.in_ok-flow.ensures.past c.in_ok-limit.ensures.past, (rw c.in_ok-inner.ensures at c.in_ok-bring.ensures.reads) (made_of d), c.in_ok-flow.ensures.reads (made_of d), c.in_ok-limit.ensures.reads (made_of d)) refl;
+  gives = rw (three_behind c.args.cursor.now c.with_name.new.cursor c.used.new.cursor c.number_within.new.cursor c.requires c.in_ok-inner.ensures.past c.in_ok-flow.ensures.past c.in_ok-limit.ensures.past, c.in_ok-inner.ensures.reads (made_of d), c.in_ok-flow.ensures.reads (made_of d), c.in_ok-limit.ensures.reads (made_of d)) refl;
   grows = sym (append-nil _);
   flat = λ at number body. block_alone at (λ after. node.BufRead c.in_ok-flow.flow c.in_ok-limit.limit number after) body;
 }

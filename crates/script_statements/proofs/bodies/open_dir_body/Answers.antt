@@ -22,18 +22,18 @@ returns-in_err-item-clause-reads c =
     let p = err_from_is_err_and c.from_residual-in_err-item.result c.from_residual-in_err-item.ensures.1 in
     rw (p.1, p.2) (λ last at word. rw (three_after_one c.args.cursor.now c.directory.new.cursor c.requires c.in_ok-directory.ensures.past, c.in_ok-directory.ensures.reads (made_of c.args.draft.now)) (fails_first _ _ _ c.in_err-item.ensures.reads))
 
-pub returns-in_err-bring-clause-reads : goal.returns-in_err-bring-clause-reads
+pub returns-in_err-inner-clause-reads : goal.returns-in_err-inner-clause-reads
 unfolding form
-returns-in_err-bring-clause-reads c =
-    let p = err_from_is_err_and c.from_residual-in_err-bring.result c.from_residual-in_err-bring.ensures.1 in
-    rw (p.1, p.2) (λ last at word. rw (three_after_two c.args.cursor.now c.directory.new.cursor c.item.new.cursor c.requires c.in_ok-directory.ensures.past c.in_ok-item.ensures.past, c.in_ok-directory.ensures.reads (made_of c.args.draft.now), c.in_ok-item.ensures.reads.gives) (fails_first _ _ _ ((rw c.in_ok-inner.ensures at c.in_err-bring.ensures.reads) (made_of c.item.new.draft))))
+returns-in_err-inner-clause-reads c =
+    let p = err_from_is_err_and c.from_residual-in_err-inner.result c.from_residual-in_err-inner.ensures.1 in
+    rw (p.1, p.2) (λ last at word. rw (three_after_two c.args.cursor.now c.directory.new.cursor c.item.new.cursor c.requires c.in_ok-directory.ensures.past c.in_ok-item.ensures.past, c.in_ok-directory.ensures.reads (made_of c.args.draft.now), c.in_ok-item.ensures.reads.gives) (fails_first _ _ _ (c.in_err-inner.ensures.reads (made_of c.item.new.draft))))
 
 pub returns-clause-reads : goal.returns-clause-reads
 unfolding form flat_statement
 returns-clause-reads c = λ last at word. record {
   make = λ body. syntax.OpenDir (directory_of c.in_ok-directory.directory) c.in_ok-item.ensures.reads.value body;
   between = flat_expression c.in_ok-item.ensures.reads.value;
-  gives = rw (three_behind c.args.cursor.now c.directory.new.cursor c.item.new.cursor c.bring.new.cursor c.requires c.in_ok-directory.ensures.past c.in_ok-item.ensures.past c.in_ok-bring.ensures.past, c.in_ok-directory.ensures.reads (made_of c.args.draft.now), c.in_ok-item.ensures.reads.gives, (rw c.in_ok-inner.ensures at c.in_ok-bring.ensures.reads) (made_of c.item.new.draft)) refl;
+  gives = rw (three_behind c.args.cursor.now c.directory.new.cursor c.item.new.cursor c.with_name.new.cursor c.requires c.in_ok-directory.ensures.past c.in_ok-item.ensures.past c.in_ok-inner.ensures.past, c.in_ok-directory.ensures.reads (made_of c.args.draft.now), c.in_ok-item.ensures.reads.gives, c.in_ok-inner.ensures.reads (made_of c.item.new.draft)) refl;
   grows = c.in_ok-item.ensures.reads.grows;
   flat = λ at number body. rw (directory_in_of c.in_ok-directory.directory) refl;
 }

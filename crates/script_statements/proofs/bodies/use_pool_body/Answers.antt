@@ -15,18 +15,18 @@ returns-in_err-pool-clause-reads c =
     let p = err_from_is_err_and c.from_residual.result c.from_residual.ensures.1 in
     rw (p.1, p.2) (λ d last at word. rw (two_before c.args.cursor.now c.requires) (fails_first _ _ _ (c.in_err-pool.ensures.reads (made_of d))))
 
-pub returns-in_err-bring-clause-reads : goal.returns-in_err-bring-clause-reads
+pub returns-in_err-inner-clause-reads : goal.returns-in_err-inner-clause-reads
 unfolding form
-returns-in_err-bring-clause-reads c =
-    let p = err_from_is_err_and c.from_residual-in_err-bring.result c.from_residual-in_err-bring.ensures.1 in
-    rw (p.1, p.2) (λ d last at word. rw (two_between c.args.cursor.now c.used.new.cursor c.requires c.in_ok-pool.ensures.past, c.in_ok-pool.ensures.reads (made_of d)) (fails_first _ _ _ ((rw c.in_ok-inner.ensures at c.in_err-bring.ensures.reads) (made_of d))))
+returns-in_err-inner-clause-reads c =
+    let p = err_from_is_err_and c.from_residual-in_err-inner.result c.from_residual-in_err-inner.ensures.1 in
+    rw (p.1, p.2) (λ d last at word. rw (two_between c.args.cursor.now c.used.new.cursor c.requires c.in_ok-pool.ensures.past, c.in_ok-pool.ensures.reads (made_of d)) (fails_first _ _ _ (c.in_err-inner.ensures.reads (made_of d))))
 
 pub returns-clause-reads : goal.returns-clause-reads
 unfolding form flat_statement
 returns-clause-reads c = λ d last at word. record {
   make = λ body. syntax.UsePool c.in_ok-pool.pool body;
   between = [];
-  gives = rw (two_behind c.args.cursor.now c.used.new.cursor c.bring.new.cursor c.requires c.in_ok-pool.ensures.past c.in_ok-bring.ensures.past, c.in_ok-pool.ensures.reads (made_of d), (rw c.in_ok-inner.ensures at c.in_ok-bring.ensures.reads) (made_of d)) refl;
+  gives = rw (two_behind c.args.cursor.now c.used.new.cursor c.with_name.new.cursor c.requires c.in_ok-pool.ensures.past c.in_ok-inner.ensures.past, c.in_ok-pool.ensures.reads (made_of d), c.in_ok-inner.ensures.reads (made_of d)) refl;
   grows = sym (append-nil _);
   flat = λ at number body. block_alone at (λ after. node.UsePool c.in_ok-pool.pool number after) body;
 }
