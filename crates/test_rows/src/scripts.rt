@@ -2,7 +2,7 @@
 //! canonical spelling, and how many bodies it has when it is read again; `refused | INPUT` where the first form stands that is for the
 //! mocked domain alone, the first body behind main, the first form that isn't one of the first forms, and the first that comes with the
 //! features behind streams; `parts | INPUT` what the script says of its parts; `text TEXT | INPUT` whether the text is one of those that
-//! its run may need; `generate N` has the script that `load` runs, of N forks.
+//! its run may need; `generate` has the script that `load` runs, of two forks.
 
 ghost use Rattle.std.specs.Prelude.{◌≤◌};
 
@@ -108,10 +108,9 @@ fn push_has(
     Ok(())
 }
 
-/// Shows the script of so many forks.
-fn push_generated(alloc: Global, forks: &str, out: &mut String) -> Result<(), Unanswered> {
-    let forks = forks.parse::<u32>().map_err(|_| Unanswered)?;
-    let script = generate(alloc, forks.clamp(1, 1000))?;
+/// Shows the generated script of two forks.
+fn push_generated(alloc: Global, out: &mut String) -> Result<(), Unanswered> {
+    let script = generate(alloc, 2)?;
     push_spelling(alloc, &script.to_tree(alloc)?, out)
 }
 
@@ -142,7 +141,7 @@ pub(crate) fn answer(
     out: &mut String,
 ) -> Result<(), Unanswered> {
     if kind == "generate" {
-        return push_generated(alloc, word, out);
+        return push_generated(alloc, out);
     }
     match input_script(alloc, input.as_bytes()) {
         Err(fault) => push_fault(alloc, fault, out),
