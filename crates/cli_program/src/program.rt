@@ -1,5 +1,8 @@
 //! From the words of the command line to an exit status.
 
+#[cfg(test)]
+mod tests;
+
 use crate::keeping::{KeepingSink, KeepingSource};
 use crate::notes;
 use eio_run::eio_run;
