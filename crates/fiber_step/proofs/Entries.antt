@@ -7,15 +7,16 @@ use Rattle.script_lang.specs.Standing.{block_at}
 use Rattle.script_forms.specs.declared.node.Group.{Group}
 use Rattle.script_forms.specs.declared.node.Node.{Node}
 use Rattle.script_forms.specs.declared.node.Node.TheVariants as node
-use Rattle.step_model.specs.Replies.{Position, into}
+use Rattle.step_model.specs.Replies.{Position, into, entered}
 use Rattle.step_model.specs.Silent.{items_of}
 use Rattle.step_model.specs.Work as work
 use Rattle.fiber_step.specs.Having.{HasStatements}
 use Rattle.fiber_step.specs.Kept.{Kept, position_of}
 use Rattle.fiber_step.specs.Placing.{IsPlaced, IsPlacedMark, ArePlaced}
-use Rattle.fiber_step.specs.Standing.{mark_work, works_of}
+use Rattle.fiber_step.specs.Standing.{ask_of, mark_work, works_of}
 use Rattle.fiber_step.specs.Stepping.{HasBranchBodies}
 use Rattle.fiber_step.specs.Turning.{gone_into, handling}
+use Rattle.fiber_step.specs.declared.ask.Ask.{Ask}
 use Rattle.fiber_step.specs.declared.item.Item.TheVariants as item
 use Rattle.fiber_step.specs.declared.mark.Mark.{Mark}
 use Rattle.fiber_step.specs.declared.mark.Mark.TheVariants as mark
@@ -67,3 +68,16 @@ pub own_begins : (nodes : List Node) (form : ℕ) (n : Node) (group : Group) (bl
 own_begins nodes form n group blocks after found these has at is same last =
     let all = same_branches n n group has.group blocks has.numbers after has.after is (same_some n _ (sym at ∙ has.is)) in
     each_got (HasStatements nodes) has.numbers (length these - 1) found has.begin (sym (last ∙ ap (λ s. slice_get s (length these - 1)) (same ∙ all)))
+
+-- ## A block that is gone into
+
+stands_into : (nodes : List Node) (end : Mark) (body : ℕ) (old new : Kept) → new ≡ gone_into end body old → position_of nodes new ≡ into (block_at nodes body) (mark_work nodes end) (works_of nodes old.items) old.variables
+stands_into nodes end body old new e =
+    ap (position_of nodes) e ∙ ap (λ these. let p : Position = record { work = these; variables = old.variables } in p) (next_two nodes old.items (item.Mark end) body)
+
+-- that of a call, with the mark that stands behind it
+pub stands_entered : (nodes : List Node) (asked call : Ask) (number : ℕ) (end : Mark) (body : ℕ) (old named new : Kept) → new ≡ gone_into end body named → asked ≡ call
+    → into (block_at nodes body) (mark_work nodes end) (works_of nodes named.items) named.variables ≡ entered (ask_of nodes call) number (works_of nodes old.items) old.variables
+    → position_of nodes new ≡ entered (ask_of nodes asked) number (works_of nodes old.items) old.variables
+stands_entered nodes asked call number end body old named new e is same =
+    stands_into nodes end body named new e ∙ (same ∙ ap (λ (a : Ask). entered (ask_of nodes a) number (works_of nodes old.items) old.variables) (sym is))
