@@ -38,4 +38,3 @@ pub use writing::{WriteAll, write_all};
 /// A read or a write that failed. What it left is said by the clauses of the call that answers it.
 #[derive(Clone, Copy, Debug)]
 pub struct Failed;
-
