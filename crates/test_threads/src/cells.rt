@@ -70,10 +70,9 @@ fn words_show_the_last_mark(rt: HostRuntime) -> Result<(), Fail> {
         unreachable!()
     };
     let found = decide(&cells, &mut first, &mut second);
-    assert_eq!(rt; found, Some([4 * 2 + 2, 4 * 4 + 3, 0, 4 * 9 + 1]));
+    assert!(rt; found == Some([4 * 2 + 2, 4 * 4 + 3, 0, 4 * 9 + 1]));
     let words = cells.close(vec![in rt.alloc(); first, second]?);
-    let wanted = [4 * 2 + 2, 4 * 9 + 1, 4 * 7 + 1, 0];
-    assert_eq!(rt; words.as_slice(), wanted.as_slice());
+    assert!(rt; words.as_slice() == [4 * 2 + 2, 4 * 9 + 1, 4 * 7 + 1, 0].as_slice());
     Ok(())
 }
 
@@ -177,21 +176,32 @@ fn race<R: Threads + Sync>(
     Ok(thread::map_vec(rt, racers, &|racer: Racer| racer.run(alloc))?)
 }
 
+/// One more for each wait that was won; false where there are more or fewer of them than waits.
+fn count(winners: &mut Vec<u32>, won: &[bool]) -> bool {
+    if won.len() != winners.len() {
+        return false;
+    }
+    for (count, won) in winners.iter_mut().zip(won) {
+        *count = u32::saturating_add(*count, u32::from(*won));
+    }
+    true
+}
+
+/// Whether each wait is won by one racer.
+fn each_is_won_once<R: Threads + Sync>(rt: &R, alloc: Global, wakers: usize) -> Result<bool, Fail> {
+    let mut winners = vec![in alloc; 0; WAITS as usize]?;
+    let mut racers = race(rt, alloc, wakers)?;
+    while let Some(won) = racers.pop() {
+        if !count(&mut winners, won?.as_slice()) {
+            return Ok(false);
+        }
+    }
+    Ok(winners.iter().all(|count| *count == 1))
+}
+
 #[test]
 fn one_wins_each_wait(rt: HostRuntime) -> Result<(), Fail> {
-    for wakers in [1, 4] {
-        let mut winners = vec![in rt.alloc(); 0; WAITS as usize]?;
-        for won in race(&rt, rt.alloc(), wakers)? {
-            let won = won?;
-            assert_eq!(rt; won.len(), winners.len());
-            for (count, won) in winners.iter_mut().zip(won) {
-                *count = u32::saturating_add(*count, u32::from(won));
-            }
-        }
-        assert!(rt;
-            winners.iter().all(|count| *count == 1),
-            "with {wakers} wakers"
-        );
-    }
+    assert!(rt; each_is_won_once(&rt, rt.alloc(), 1)?);
+    assert!(rt; each_is_won_once(&rt, rt.alloc(), 4)?);
     Ok(())
 }
