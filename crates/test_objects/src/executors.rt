@@ -107,12 +107,22 @@ fn the_end_of_a_job_wakes_its_submitter(rt: HostRuntime) -> Result<(), Fail> {
     Ok(())
 }
 
+/// Whether calls answer where one job can be queued.
+fn small_one_answers(alloc: Global) -> Result<bool, NoMemory> {
+    let mut exec = Exec::new(alloc, &[4], 1)?;
+    Ok(with_one(alloc, &mut exec) == ["off", "waits", "nothing", "nothing"])
+}
+
+/// Whether jobs start where they fit, in order.
+fn jobs_start(alloc: Global) -> Result<bool, NoMemory> {
+    let mut exec = Exec::new(alloc, &[4, 5], 4)?;
+    submit(&mut exec, 60);
+    Ok(start(alloc, &mut exec) == [Some((4, 0)), Some((5, 1)), None])
+}
+
 #[test]
 fn jobs_are_queued_and_start_where_they_fit(rt: HostRuntime) -> Result<(), Fail> {
-    let mut small = Exec::new(rt.alloc(), &[4], 1)?;
-    assert!(rt; with_one(rt.alloc(), &mut small) == ["off", "waits", "nothing", "nothing"]);
-    let mut exec = Exec::new(rt.alloc(), &[4, 5], 4)?;
-    submit(&mut exec, 60);
-    assert!(rt; start(rt.alloc(), &mut exec) == [Some((4, 0)), Some((5, 1)), None]);
+    assert!(rt; small_one_answers(rt.alloc())?);
+    assert!(rt; jobs_start(rt.alloc())?);
     Ok(())
 }
