@@ -63,14 +63,24 @@ fn sees(
     Ok(end_both(&mut groups, kind, outcomes)? == wanted && groups.len() == 1)
 }
 
-/// Whether two values make the group give unit, or the first one of them where the kind keeps it, which cancels the other.
-fn values_end(alloc: Global) -> Result<bool, NoMemory> {
-    let values = [Outcome::Ok(Value::Int(7)), Outcome::Ok(Value::Int(8))];
-    let waits = ("waits", 0);
-    let both = ([None, None], Some(3), None, [waits, ("gives", 0)]);
+/// Two branches that end with values.
+fn values() -> [Outcome; 2] {
+    [Outcome::Ok(Value::Int(7)), Outcome::Ok(Value::Int(8))]
+}
+
+/// Whether two values make a group give unit whose kind keeps none.
+fn both_end(alloc: Global) -> Result<bool, NoMemory> {
+    let joins = [("waits", 0), ("gives", 0)];
+    let wanted = ([None, None], Some(3), None, joins);
+    sees(alloc, GroupKind::Both, values(), wanted)
+}
+
+/// Whether the first value is kept and cancels the other branch, where the kind keeps one.
+fn the_first_ends(alloc: Global) -> Result<bool, NoMemory> {
     let cancels = [Some(Plain::NotFirst), None];
-    let first = (cancels, Some(3), Some(Value::Int(7)), [waits, ("gives", 7)]);
-    Ok(sees(alloc, GroupKind::Both, values, both)? && sees(alloc, GroupKind::First, values, first)?)
+    let joins = [("waits", 0), ("gives", 7)];
+    let wanted = (cancels, Some(3), Some(Value::Int(7)), joins);
+    sees(alloc, GroupKind::First, values(), wanted)
 }
 
 /// Whether an exception cancels the other branch, and is raised without the cancellation that comes of it.
@@ -94,7 +104,8 @@ fn context(groups: &mut Groups) -> Result<u32, NoMemory>
 
 #[test]
 fn branches_end(rt: HostRuntime) -> Result<(), Fail> {
-    assert!(rt; values_end(rt.alloc())?);
+    assert!(rt; both_end(rt.alloc())?);
+    assert!(rt; the_first_ends(rt.alloc())?);
     assert!(rt; exceptions_end(rt.alloc())?);
     let mut groups = Groups::new(rt.alloc());
     assert!(rt; groups.is_empty() && context(&mut groups)? == 4);

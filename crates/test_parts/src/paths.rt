@@ -77,18 +77,16 @@ const ROWS: [(Call, u32, &str, Wanted); 28] = [
     (Call::Kind, 0, "e", Fault(NotFound)),
 ];
 
-/// A link.
-fn link(alloc: Global, name: &[u8], target: &[u8]) -> Result<Entry, NoMemory> {
-    let name = Bytes::new(Vec::from_slice(alloc, name)?);
-    let target = Bytes::new(Vec::from_slice(alloc, target)?);
-    Ok(Entry::Link(name, target))
+fn bytes(alloc: Global, text: &str) -> Result<Bytes, NoMemory> {
+    Ok(Bytes::new(Vec::from_slice(alloc, text.as_bytes())?))
 }
 
 /// A tree with a link to itself, `a`, and one that leads up, `l`.
 #[tactic(auto, unfolding(eio_value::specs::Directory::entry_count))]
 fn tree_of_links(alloc: Global) -> Result<DirTree, NoMemory> {
-    let entries = [link(alloc, b"l", b"..")?, link(alloc, b"a", b"a")?];
-    DirTree::new(alloc, &entries)
+    let up = Entry::Link(bytes(alloc, "l")?, bytes(alloc, "..")?);
+    let itself = Entry::Link(bytes(alloc, "a")?, bytes(alloc, "a")?);
+    DirTree::new(alloc, &[up, itself])
 }
 
 fn is_fault(fault: CapFault, wanted: Wanted) -> bool {
