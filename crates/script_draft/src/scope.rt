@@ -157,7 +157,7 @@ impl<'t, 'd> Scope<'t, 'd> {
     ///
     /// # Errors
     /// `Shape` where no word comes next, `Size` where as many names are in scope as may be, `Twice` where the name is taken.
-    fn bring(&mut self, kind: Kind, cursor: &mut Cursor<'t>) -> Result<(), ScriptFault>
+    pub fn bring(&mut self, kind: Kind, cursor: &mut Cursor<'t>) -> Result<(), ScriptFault>
         requires { has_tree cursor.old ≡ true }
         ensures past { IfOk result (λ _. IsPast cursor.old cursor.new) }
         ensures reads { Brings result (kind_of kind) self.old self.new (tree_ahead cursor.old) }

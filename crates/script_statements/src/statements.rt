@@ -138,7 +138,8 @@ fn let_form<'t, 'd>(
     ensures behind { IfOk result (λ _. IsBehind cursor.old cursor.new) }
     ensures reads { (last : Bool) (at : ℕ) (word : Tree) → States result (model.form scope.old last at forms.LetHead (And word (ahead cursor.old))) scope.new opened draft.old draft.new }
 {
-    let behind = scope.with_name(Kind::Variable, cursor)?;
+    let mut behind = scope.inner()?;
+    behind.bring(Kind::Variable, cursor)?;
     let node = value(cursor, draft, scope)?;
     draft.fill(opened, node);
     cursor.close();
@@ -218,7 +219,8 @@ fn try_form<'t, 'd>(
 {
     let tried = draft.next();
     block(cursor, draft, scope, false)?;
-    let inner = scope.with_name(Kind::Variable, cursor)?;
+    let mut inner = scope.inner()?;
+    inner.bring(Kind::Variable, cursor)?;
     let handler = draft.next();
     block(cursor, draft, &inner, false)?;
     let after = draft.next();

@@ -93,19 +93,19 @@ form-returns-in-Branches-clause-reads t c = λ word.
 
 -- ## `let`
 
-pub let_form-returns-in_err-behind-clause-reads : goal.let_form-returns-in_err-behind-clause-reads
-let_form-returns-in_err-behind-clause-reads t c =
-    let p = err_from_is_err_and c.from_residual.result c.from_residual.ensures.1 in
-    rw (p.1, p.2) (λ last at word. let_name_fails c.args.scope.now last at word c.args.cursor.now (made_of c.args.draft.now) _ c.requires.items (c.in_err-behind.ensures.reads (made_of c.args.draft.now)))
+pub let_form-returns-in_err-bring-clause-reads : goal.let_form-returns-in_err-bring-clause-reads
+let_form-returns-in_err-bring-clause-reads t c =
+    let p = err_from_is_err_and c.from_residual-in_err-bring.result c.from_residual-in_err-bring.ensures.1 in
+    rw (p.1, p.2) (λ last at word. let_name_fails c.args.scope.now last at word c.args.cursor.now (made_of c.args.draft.now) _ c.requires.items (rw c.in_ok-behind.ensures at (c.in_err-bring.ensures.reads (made_of c.args.draft.now))))
 
 pub let_form-returns-in_err-node-clause-reads : goal.let_form-returns-in_err-node-clause-reads
 let_form-returns-in_err-node-clause-reads t c =
     let p = err_from_is_err_and c.from_residual-in_err-node.result c.from_residual-in_err-node.ensures.1 in
-    rw (p.1, p.2) (λ last at word. let_value_fails c.args.scope.now c.in_ok-behind.behind last at word c.args.cursor.now c.with_name.new.cursor (made_of c.args.draft.now) _ c.requires.items c.in_ok-behind.ensures.past c.in_ok-behind.ensures.reads c.in_err-node.ensures.reads)
+    rw (p.1, p.2) (λ last at word. let_value_fails c.args.scope.now c.bring.new.self last at word c.args.cursor.now c.bring.new.cursor (made_of c.args.draft.now) _ c.requires.items c.in_ok-bring.ensures.past (rw c.in_ok-behind.ensures at c.in_ok-bring.ensures.reads) c.in_err-node.ensures.reads)
 
 pub let_form-returns-clause-reads : goal.let_form-returns-clause-reads
 let_form-returns-clause-reads t c = λ last at word.
-    let_read c.args.scope.now c.in_ok-behind.behind last at word c.args.cursor.now c.with_name.new.cursor c.value.new.cursor c.args.opened c.in_ok-node.node c.args.draft.now c.value.new.draft c.fill.new.self c.requires.items c.in_ok-behind.ensures.past c.in_ok-node.ensures.past c.requires.opened c.in_ok-behind.ensures.reads c.in_ok-node.ensures.reads c.fill.ensures
+    let_read c.args.scope.now c.bring.new.self last at word c.args.cursor.now c.bring.new.cursor c.value.new.cursor c.args.opened c.in_ok-node.node c.args.draft.now c.value.new.draft c.fill.new.self c.requires.items c.in_ok-bring.ensures.past c.in_ok-node.ensures.past c.requires.opened (rw c.in_ok-behind.ensures at c.in_ok-bring.ensures.reads) c.in_ok-node.ensures.reads c.fill.ensures
 
 pub value-returns-in_err-item-clause-reads : goal.value-returns-in_err-item-clause-reads
 value-returns-in_err-item-clause-reads t c =
@@ -163,19 +163,19 @@ try_form-returns-in_err-block-clause-reads t c =
     let p = err_from_is_err_and c.from_residual.result c.from_residual.ensures.1 in
     rw (p.1, p.2) (λ last at word. try_block_fails c.args.scope.now last at word c.args.cursor.now (made_of c.args.draft.now) _ c.requires.items c.in_err-block.ensures.reads)
 
-pub try_form-returns-in_err-inner-clause-reads : goal.try_form-returns-in_err-inner-clause-reads
-try_form-returns-in_err-inner-clause-reads t c =
-    let p = err_from_is_err_and c.from_residual-in_err-inner.result c.from_residual-in_err-inner.ensures.1 in
-    rw (p.1, p.2) (λ last at word. try_name_fails c.args.scope.now last at word c.args.cursor.now c.block.new.cursor c.args.draft.now c.block.new.draft _ c.requires.items c.in_ok-block.ensures.past c.in_ok-block.ensures.reads (c.in_err-inner.ensures.reads (made_of c.block.new.draft)))
+pub try_form-returns-in_err-bring-clause-reads : goal.try_form-returns-in_err-bring-clause-reads
+try_form-returns-in_err-bring-clause-reads t c =
+    let p = err_from_is_err_and c.from_residual-in_err-bring.result c.from_residual-in_err-bring.ensures.1 in
+    rw (p.1, p.2) (λ last at word. try_name_fails c.args.scope.now last at word c.args.cursor.now c.block.new.cursor c.args.draft.now c.block.new.draft _ c.requires.items c.in_ok-block.ensures.past c.in_ok-block.ensures.reads (rw c.in_ok-inner.ensures at (c.in_err-bring.ensures.reads (made_of c.block.new.draft))))
 
 pub try_form-returns-in_err-block-2-clause-reads : goal.try_form-returns-in_err-block-2-clause-reads
 try_form-returns-in_err-block-2-clause-reads t c =
     let p = err_from_is_err_and c.from_residual-in_err-block-2.result c.from_residual-in_err-block-2.ensures.1 in
-    rw (p.1, p.2) (λ last at word. try_handler_fails c.args.scope.now c.in_ok-inner.inner last at word c.args.cursor.now c.block.new.cursor c.with_name.new.cursor c.args.draft.now c.block.new.draft _ c.requires.items c.in_ok-block.ensures.past c.in_ok-inner.ensures.past c.in_ok-block.ensures.reads c.in_ok-inner.ensures.reads c.in_err-block-2.ensures.reads)
+    rw (p.1, p.2) (λ last at word. try_handler_fails c.args.scope.now c.bring.new.self last at word c.args.cursor.now c.block.new.cursor c.bring.new.cursor c.args.draft.now c.block.new.draft _ c.requires.items c.in_ok-block.ensures.past c.in_ok-bring.ensures.past c.in_ok-block.ensures.reads (rw c.in_ok-inner.ensures at c.in_ok-bring.ensures.reads) c.in_err-block-2.ensures.reads)
 
 pub try_form-returns-clause-reads : goal.try_form-returns-clause-reads
 try_form-returns-clause-reads t c = λ last at word.
-    try_read c.args.scope.now c.in_ok-inner.inner last at word c.args.cursor.now c.block.new.cursor c.with_name.new.cursor c.block-2.new.cursor c.args.opened c.next-tried.result c.next-handler.result c.next-after.result c.args.draft.now c.block.new.draft c.block-2.new.draft c.fill.new.self c.requires.items c.in_ok-block.ensures.past c.in_ok-inner.ensures.past c.in_ok-block-2.ensures.past c.requires.opened c.in_ok-block.ensures.reads c.in_ok-inner.ensures.reads c.in_ok-block-2.ensures.reads c.next-tried.ensures c.next-handler.ensures c.next-after.ensures c.fill.ensures
+    try_read c.args.scope.now c.bring.new.self last at word c.args.cursor.now c.block.new.cursor c.bring.new.cursor c.block-2.new.cursor c.args.opened c.next-tried.result c.next-handler.result c.next-after.result c.args.draft.now c.block.new.draft c.block-2.new.draft c.fill.new.self c.requires.items c.in_ok-block.ensures.past c.in_ok-bring.ensures.past c.in_ok-block-2.ensures.past c.requires.opened c.in_ok-block.ensures.reads (rw c.in_ok-inner.ensures at c.in_ok-bring.ensures.reads) c.in_ok-block-2.ensures.reads c.next-tried.ensures c.next-handler.ensures c.next-after.ensures c.fill.ensures
 
 -- ## Branches
 
