@@ -9,7 +9,7 @@ ghost use Rattle.script_draft.specs.Ahead.{ahead, has_tree, tree_ahead, IsPast};
 ghost use Rattle.script_statements.specs.Blocks.{Blocked};
 ghost use Rattle.script_declarations.specs.DeclarationsRead.{declared_of, IsAtMain, is_main};
 ghost use Rattle.script_draft.specs.Drafts.{nothing_drafted};
-ghost use Rattle.script_forms.specs.declared.fault.ScriptFault.TheVariants.{NoMemory};
+ghost use Rattle.script_forms.specs.declared.fault.ScriptFault.TheVariants as variant;
 ghost use Rattle.script_forms.specs.Faults.{Fails};
 ghost use Rattle.script_lang.specs.ScriptInside.{IsRead};
 ghost use Rattle.script_lang.specs.ScriptsRead.{domain_of, one_if, Bodied, Roots, Names};
@@ -143,7 +143,7 @@ fn find_main(cursor: &mut Cursor)
 /// How many bodies there are with main, which was passed.
 fn count_domains(cursor: &mut Cursor) -> Result<u32, ScriptFault>
     ensures count { IfOk result (λ count. count ≡ domains_in (ahead cursor.old) + 1) }
-    ensures fault { IfErr result (λ fault. fault ≡ NoMemory) }
+    ensures fault { IfErr result (λ fault. fault ≡ variant.NoMemory) }
 {
     let mut count: u32 = 1;
     while cursor.has_tree() {
@@ -156,7 +156,7 @@ fn count_domains(cursor: &mut Cursor) -> Result<u32, ScriptFault>
 /// How many bodies there are with the tree that comes next, if it is one.
 fn count_with(cursor: &Cursor, count: u32) -> Result<u32, ScriptFault>
     ensures count { IfOk result (λ more. more ≡ count + one_if (is_some (items_behind (codes "domain") (tree_ahead cursor.now)))) }
-    ensures fault { IfErr result (λ fault. fault ≡ NoMemory) }
+    ensures fault { IfErr result (λ fault. fault ≡ variant.NoMemory) }
 {
     if !is_headed(cursor, b"domain") {
         return Ok(count);
