@@ -58,6 +58,15 @@ fn push_reads<S: Source>(source: &mut S, log: &mut Vec<u8>) -> Result<(), NoMemo
     Ok(())
 }
 
+/// A bar for each byte that was taken, and a stop.
+fn push_bars(log: &mut Vec<u8>, count: usize) -> Result<(), NoMemory> {
+    for _ in 0..count {
+        log.push(b'|')?;
+    }
+    log.push(b'.')?;
+    Ok(())
+}
+
 /// Five writes of the letters that are left: a bar for each byte that one takes, and then a stop, or an
 /// exclamation mark.
 fn push_writes<K: Sink>(sink: &mut K, log: &mut Vec<u8>) -> Result<(), NoMemory> {
@@ -68,8 +77,7 @@ fn push_writes<K: Sink>(sink: &mut K, log: &mut Vec<u8>) -> Result<(), NoMemory>
         }
         match sink.write(rest) {
             Ok(count) => {
-                log.extend_from_slice(&b"||||||||||||||||||||||||||"[..count])?;
-                log.push(b'.')?;
+                push_bars(log, count)?;
                 rest = &rest[count..];
             }
             Err(Failed) => log.push(b'!')?,
@@ -190,7 +198,11 @@ fn answer_readers(log: &mut Vec<u8>) -> Result<(), NoMemory> {
     push_asked(log, "a reader that fails")?;
     push_reads(&mut broken, log)?;
     log.push(b'\n')?;
-    push_count(log, "faults that it had not yet", u64::MAX - broken.faults)
+    push_count(
+        log,
+        "its faults, no more than can be counted",
+        broken.faults,
+    )
 }
 
 /// How this writer takes seven bytes, and how often it failed.

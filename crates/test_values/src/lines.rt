@@ -1,12 +1,17 @@
 //! The lines of the trace that moves write, and the numbers of statuses.
 
+ghost use Rattle.std.specs.Prelude.{◌≡◌, []};
+ghost use Rattle.trace_out.specs.TraceTexts.{CanTrace};
+
 use crate::log::{push_asked, push_count, push_heading};
 use eio_value::{NoMemory, Operands, Texts, Value};
 use std::alloc::Global;
 use trace_out::{Did, Line, Said2, Status, render_trace};
 
 /// The line of a move that did this.
-fn line_of(did: Did) -> Line {
+fn line_of(did: Did) -> Line
+    ensures { result.did ≡ did }
+{
     Line {
         stamp: 1,
         domain: 0,
@@ -16,20 +21,22 @@ fn line_of(did: Did) -> Line {
     }
 }
 
+/// What the line of a move adds to the trace.
+fn push_move(texts: &Texts, log: &mut Vec<u8>, asked: &str, did: Did) -> Result<(), NoMemory>
+    requires { CanTrace texts.now [] did }
+{
+    push_asked(log, asked)?;
+    render_trace(texts, &[], &line_of(did), log)?;
+    log.push(b'\n')?;
+    Ok(())
+}
+
 /// What a clock's tick, a yield and a trace of one value write.
 fn answer_moves(texts: &Texts, log: &mut Vec<u8>) -> Result<(), NoMemory> {
     let one = Operands::none().with(Value::Int(1));
-    let rows = [
-        ("a tick", Did::Tick(5)),
-        ("a yield", Did::Yield),
-        ("a trace", Did::Trace(one)),
-    ];
-    for (asked, did) in rows {
-        push_asked(log, asked)?;
-        render_trace(texts, &[], &line_of(did), log)?;
-        log.push(b'\n')?;
-    }
-    Ok(())
+    push_move(texts, log, "a tick", Did::Tick(5))?;
+    push_move(texts, log, "a yield", Did::Yield)?;
+    push_move(texts, log, "a trace", Did::Trace(one))
 }
 
 /// The exit status of each ending.
