@@ -89,6 +89,40 @@ fn push_branches(script: &Script, call: &Ask, out: &mut String) -> Result<(), Un
     }
 }
 
+/// Shows a call, or the first nodes of the branches that it begins.
+fn push_called(
+    kind: &str,
+    script: &Script,
+    texts: &Texts,
+    call: &Ask,
+    out: &mut String,
+) -> Result<(), Unanswered>
+    requires { HasBodiesOf (nodes_of script.now) call.now }
+{
+    match kind {
+        "branches" => push_branches(script, call, out),
+        _ => push_call(out, texts, call),
+    }
+}
+
+/// Shows the call of a fiber that a row is about.
+fn push_call_of(
+    kind: &str,
+    number: i64,
+    script: &Script,
+    fiber: &mut Fiber,
+    texts: &mut Texts,
+    out: &mut String,
+) -> Result<(), Unanswered>
+    requires items { ArePlaced (nodes_of script.now) fiber.old.items }
+    requires texts { length script.now.texts ≤ length texts.old }
+{
+    match &call_of(kind, number, script, fiber, texts) {
+        Ok(call) => push_called(kind, script, texts, call, out),
+        Err(_) => Err(Unanswered),
+    }
+}
+
 /// Shows the call that a row is about.
 fn push_answer(
     alloc: Global,
@@ -99,11 +133,7 @@ fn push_answer(
 ) -> Result<(), Unanswered> {
     let mut texts = script.texts_of(alloc)?;
     let mut fiber = begun(alloc, kind, number, script)?;
-    let call = call_of(kind, number, script, &mut fiber, &mut texts)?;
-    match kind {
-        "branches" => push_branches(script, &call, out),
-        _ => push_call(out, &texts, &call),
-    }
+    push_call_of(kind, number, script, &mut fiber, &mut texts, out)
 }
 
 /// Shows the call that a mark makes of what came, and how many variables are kept then; or nothing.
