@@ -18,7 +18,6 @@ mod unanswered;
 use domain_core::Domain;
 use fiber_step::Fiber;
 use mock_backend::Local;
-use script_lang::Script;
 use std::alloc::Global;
 use std::io;
 use std::io::Print;
@@ -30,9 +29,6 @@ use unanswered::Unanswered;
 
 /// Only of types that may move to another thread.
 fn may_move<T: Send>() {}
-
-/// Only of types that threads may share.
-fn may_be_shared<T: Sync>() {}
 
 /// The answer to the rows of a kind that run no command.
 fn answer_to_part(
@@ -86,7 +82,6 @@ fn main(rt: HostRuntime) -> io::Result<()> {
     may_move::<Fiber>();
     may_move::<Line>();
     may_move::<Local>();
-    may_be_shared::<Script>();
     let rows = io::read_to_string(rt.alloc(), rt.reader())?;
     for row in rows.lines() {
         show(&rt, row)?;

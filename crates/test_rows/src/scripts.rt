@@ -71,8 +71,12 @@ fn push_body(script: &Script, number: u8, out: &mut String) -> Result<(), AllocE
     write!(out, ", {first} {word}")
 }
 
-/// Shows what a script says of its parts.
+/// Only of types that threads may share.
+fn may_be_shared<T: Sync>(_shared: &T) {}
+
+/// Shows what a script, which threads may share, says of its parts.
 fn push_parts(script: &Script, out: &mut String) -> Result<(), AllocError> {
+    may_be_shared(script);
     write!(out, "  {} names,", script.names().len())?;
     for declaration in script.declarations() {
         out.push_str(declared_word(declaration))?;
