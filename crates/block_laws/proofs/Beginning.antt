@@ -7,7 +7,7 @@ use Rattle.script_model.specs.Scripts.{Script}
 use Rattle.script_model.specs.Syntax.{Block, Begins}
 use Rattle.script_laws.specs.Soundness.{IsSoundBlock, in_body, kinds_of}
 use Rattle.script_forms.specs.Flat.{nodes_of}
-use Rattle.script_lang.specs.Standing.{block_at}
+use Rattle.script_code.specs.Standing.{block_at}
 use Rattle.script_forms.specs.declared.node.Node.{Node}
 use Rattle.step_model.specs.Numbered.{number_of, blocks_from, blocks_of_statements, block_numbered}
 use Rattle.block_laws.specs.Beginnings.{blocks_in, BeginsBlock, StandsAtNumber, IsSoundSomewhere, blocks_named}

@@ -7,7 +7,7 @@ use Rattle.std.proofs.lemmas.List.Elements.{All-nil, All-cons, All-weaker, Conta
 use Rattle.std.proofs.lemmas.List.Kept.{AllPairs-cons}
 use Rattle.script_model.specs.Scripts.{Script}
 use Rattle.script_model.specs.Syntax.{Block, Begins, Done}
-use Rattle.script_lang.specs.Numbered.{HasNumbers}
+use Rattle.script_code.specs.Numbered.{HasNumbers}
 use Rattle.step_model.specs.Numbered.{number_of, block_numbered}
 use Rattle.block_laws.specs.Beginnings.{blocks_in}
 use Rattle.block_laws.specs.Laws.{FoundByNumber, AllFoundByNumber, FoundHasNumber, BlocksByNumber, NumbersRise}

@@ -7,10 +7,10 @@ use Rattle.std.proofs.Math.Seq.{drop-append_seam}
 use Rattle.script_model.specs.Syntax as syntax
 use Rattle.script_model.specs.Syntax.{Statement, Statements, Done, Then, Block, Begins, Blocks, NoBlocks, AndBlock}
 use Rattle.script_forms.specs.Flat.{flat_expression, flat_statement, flat_statements, flat_blocks, flat_bodies}
-use Rattle.script_lang.specs.Numbered.{IsNumbered, IsNumberedBlock, AreNumbered, AreNumberedBlocks, AreNumberedBodies}
-use Rattle.script_lang.specs.ScriptCode.{unflat_statements}
-use Rattle.script_lang.specs.Standing.{statements_at}
-use Rattle.script_lang.specs.Unflat.{Behind, first_rest, unflat}
+use Rattle.script_code.specs.Numbered.{IsNumbered, IsNumberedBlock, AreNumbered, AreNumberedBlocks, AreNumberedBodies}
+use Rattle.script_code.specs.ScriptCode.{unflat_statements}
+use Rattle.script_code.specs.Standing.{statements_at}
+use Rattle.script_code.specs.Unflat.{Behind, first_rest, unflat}
 use Rattle.script_forms.specs.declared.node.Node.{Node}
 use Rattle.step_model.specs.Numbered.{blocks_from, blocks_of_statement, blocks_of_statements, blocks_of_branches}
 use Rattle.block_laws.specs.Beginnings.{StandsAtNumber}

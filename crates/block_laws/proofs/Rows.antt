@@ -5,8 +5,8 @@ use Rattle.script_model.specs.Scripts.{Script}
 use Rattle.script_model.specs.Syntax.{Yield, Now, Sub, Branches, Both, Block, Begins, Done, Then, NoBlocks, AndBlock}
 use Rattle.step_model.specs.Numbered.{blocks_from, blocks_of_statement, blocks_of_statements, blocks_of_branches, block_numbered}
 use Rattle.script_forms.specs.Flat.{numbers_of, flat_statement, flat_statements, flat_blocks, flat_bodies, nodes_of}
-use Rattle.script_lang.specs.Numbered.{IsNumbered, IsNumberedBlock, AreNumbered, AreNumberedBlocks, AreNumberedBodies}
-use Rattle.script_lang.specs.Standing.{statements_at, block_at}
+use Rattle.script_code.specs.Numbered.{IsNumbered, IsNumberedBlock, AreNumbered, AreNumberedBlocks, AreNumberedBodies}
+use Rattle.script_code.specs.Standing.{statements_at, block_at}
 use Rattle.script_forms.specs.declared.node.Group.TheVariants as group
 use Rattle.script_forms.specs.declared.node.Node.TheVariants as node
 use Rattle.block_laws.specs.Beginnings.{blocks_in, blocks_named}

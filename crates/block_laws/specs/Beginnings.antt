@@ -7,8 +7,8 @@ use Rattle.script_model.specs.Syntax.{Block}
 use Rattle.step_model.specs.Numbered.{number_of, blocks_from}
 use Rattle.script_laws.specs.Soundness.{Known, IsSoundBlock}
 use Rattle.script_forms.specs.Flat.{flat_block}
-use Rattle.script_lang.specs.Numbered.{IsNumberedBlock}
-use Rattle.script_lang.specs.Standing.{block_at}
+use Rattle.script_code.specs.Numbered.{IsNumberedBlock}
+use Rattle.script_code.specs.Standing.{block_at}
 use Rattle.script_forms.specs.declared.node.Node.{Node}
 use Rattle.script_forms.specs.declared.node.Node.TheVariants as node
 

@@ -5,8 +5,8 @@ use Rattle.script_model.specs.Syntax.{Block}
 use Rattle.step_model.specs.Numbered.{number_of, block_numbered, blocks_from}
 use Rattle.script_laws.specs.Soundness.{IsSound}
 use Rattle.script_forms.specs.Flat.{nodes_of}
-use Rattle.script_lang.specs.Numbered.{HasNumbers}
-use Rattle.script_lang.specs.Standing.{block_at}
+use Rattle.script_code.specs.Numbered.{HasNumbers}
+use Rattle.script_code.specs.Standing.{block_at}
 use Rattle.script_forms.specs.declared.node.Node.{Node}
 use Rattle.block_laws.specs.Beginnings.{blocks_in, BeginsBlock, StandsAtNumber, IsSoundSomewhere, blocks_named}
 

@@ -7,7 +7,7 @@ use Rattle.eio_value.specs.declared.value.Value.TheVariants as value
 use Rattle.row_model.specs.Contexts.{is_live, off}
 use Rattle.row_model.specs.Switches.{Switch, switch_at, refuses_fibers, refuses_forks}
 use Rattle.script_forms.specs.Calls.{forking_of}
-use Rattle.script_lang.specs.Standing.{block_at}
+use Rattle.script_code.specs.Standing.{block_at}
 use Rattle.script_forms.specs.declared.node.Node.{Node}
 use Rattle.script_model.specs.Scripts.{Script}
 use Rattle.script_model.specs.Syntax as syntax

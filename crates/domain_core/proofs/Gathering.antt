@@ -6,7 +6,7 @@ use Rattle.std.proofs.lemmas.List.{append_assoc, append-nil, length-append, map-
 use Rattle.std.proofs.lemmas.List.Sums.{count_by-le-length, sum_by-append}
 use Rattle.eio_value.specs.declared.value.Value.{Value}
 use Rattle.script_model.specs.Syntax.{Block}
-use Rattle.script_lang.specs.Standing.{block_at}
+use Rattle.script_code.specs.Standing.{block_at}
 use Rattle.script_forms.specs.declared.node.Node.{Node}
 use Rattle.row_model.specs.Groups.{Group, GroupKind, gathered}
 use Rattle.step_model.specs.Replies.{begun}

@@ -6,7 +6,7 @@ use Rattle.std.proofs.lemmas.Bool.{lt-ltb, le-ltb}
 use Rattle.std.proofs.lemmas.List.{length-map, length-take-le, take-map}
 use Rattle.eio_value.specs.declared.plain.Plain.{Plain}
 use Rattle.row_model.specs.Groups.{gathered}
-use Rattle.script_lang.specs.Standing.{block_at}
+use Rattle.script_code.specs.Standing.{block_at}
 use Rattle.script_forms.specs.declared.node.Node.{Node}
 use Rattle.script_model.specs.Scripts.{Script}
 use Rattle.script_model.specs.Syntax as syntax

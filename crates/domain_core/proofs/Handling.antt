@@ -10,8 +10,8 @@ use Rattle.script_model.specs.Scripts.{Script}
 use Rattle.script_model.specs.Syntax.{Block, Begins}
 use Rattle.script_laws.specs.Soundness.{IsSound, IsSoundBlock}
 use Rattle.script_forms.specs.Flat.{nodes_of}
-use Rattle.script_lang.specs.Numbered.{HasNumbers, IsNumberedBlock}
-use Rattle.script_lang.specs.Standing.{block_at}
+use Rattle.script_code.specs.Numbered.{HasNumbers, IsNumberedBlock}
+use Rattle.script_code.specs.Standing.{block_at}
 use Rattle.script_forms.specs.declared.node.Node.{Node}
 use Rattle.step_model.specs.Asks as asks
 use Rattle.step_model.specs.Numbered.{number_of, block_numbered}

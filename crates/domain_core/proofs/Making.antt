@@ -6,7 +6,7 @@ use Rattle.machine_model.specs.Domain.{DomainState, never_made, fiber_at, made}
 use Rattle.eio_value.specs.declared.raised.Outcome.TheVariants as outcome
 use Rattle.eio_value.specs.declared.value.Value.TheVariants as value
 use Rattle.row_model.specs.Switches.{Switch, switch_at, with_switch, attach}
-use Rattle.script_lang.specs.Standing.{block_at}
+use Rattle.script_code.specs.Standing.{block_at}
 use Rattle.step_model.specs.Replies.{Position, begun}
 use Rattle.fiber_step.specs.Kept.{Kept, position_of}
 use Rattle.fiber_step.specs.Placing.{ArePlaced}

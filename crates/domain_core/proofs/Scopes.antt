@@ -11,7 +11,7 @@ use Rattle.eio_value.specs.declared.value.Value.{Value}
 use Rattle.eio_value.specs.declared.value.Value.TheVariants as value
 use Rattle.row_model.specs.Contexts.{is_live}
 use Rattle.row_model.specs.Switches.{Switch, opened, switch_at}
-use Rattle.script_lang.specs.Standing.{block_at}
+use Rattle.script_code.specs.Standing.{block_at}
 use Rattle.script_forms.specs.declared.node.Node.{Node}
 use Rattle.step_model.specs.Asks.{Ask}
 use Rattle.trace_out.specs.declared.line.Did.TheVariants as did

@@ -8,7 +8,7 @@ use Rattle.row_model.specs.Switches.{Switch}
 use Rattle.fiber_step.specs.Kept.{Kept, position_of}
 use Rattle.fiber_step.specs.Placing.{ArePlaced}
 use Rattle.script_forms.specs.Flat.{nodes_of}
-use Rattle.script_lang.specs.Standing.{block_at}
+use Rattle.script_code.specs.Standing.{block_at}
 use Rattle.script_forms.specs.declared.node.Node.{Node}
 use Rattle.script_model.specs.Opening.{opening_texts}
 use Rattle.script_model.specs.Scripts.{Script}

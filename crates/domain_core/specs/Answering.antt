@@ -16,7 +16,7 @@ use Rattle.machine_model.specs.SwitchMoves.{closed_by, with_switch_at}
 use Rattle.row_model.specs.Groups.{GroupKind, gathered}
 use Rattle.row_model.specs.Switches.{Switch, Closed, attach, close_step, switch_at}
 use Rattle.script_forms.specs.Flat.{nodes_of}
-use Rattle.script_lang.specs.Standing.{block_at}
+use Rattle.script_code.specs.Standing.{block_at}
 use Rattle.script_forms.specs.declared.node.Forking.{Forking}
 use Rattle.script_forms.specs.declared.node.Forking.TheVariants as forking
 use Rattle.script_forms.specs.declared.node.Node.{Node}

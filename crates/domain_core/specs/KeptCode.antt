@@ -5,8 +5,8 @@ use Rattle.std.specs.Coded.{Coded, code_by, codes}
 use Rattle.script_model.specs.Syntax.{Block, Begins, Done}
 use Rattle.script_forms.specs.declared.node.Node.{Node}
 use Rattle.script_forms.specs.Flat.{number_of, flat_bodies}
-use Rattle.script_lang.specs.ScriptCode.{bodies_of-flat}
-use Rattle.script_lang.specs.Unflat.{bodies_of}
+use Rattle.script_code.specs.ScriptCode.{bodies_of-flat}
+use Rattle.script_code.specs.Unflat.{bodies_of}
 use Rattle.domain_core.specs.Keeping.{KeptFiber, KeptDomain}
 
 abbrev pub Parted : Type 0

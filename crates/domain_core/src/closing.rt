@@ -19,7 +19,7 @@ use crate::standing::{Again, Next};
 use crate::told::Told;
 use eio_value::{NoMemory, Plain, Raised, Value};
 use fiber_step::{Ask, Variables};
-use script_lang::Script;
+use script_code::Script;
 use switch_core::{CloseStep, Handler};
 use trace_out::{Did, Said2};
 

@@ -13,7 +13,7 @@ use crate::standing::Next;
 use crate::told::Told;
 use eio_value::{Misuse, NoMemory, Outcome, Plain, TextId, Value};
 use fiber_step::Ask;
-use script_lang::Script;
+use script_code::Script;
 use trace_out::{Did, Said2};
 
 impl Domain {

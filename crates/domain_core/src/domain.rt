@@ -17,7 +17,7 @@ use cancel_tree::Contexts;
 use eio_value::{NoMemory, Outcome};
 use group_core::Groups;
 use run_queue::Ready;
-use script_lang::Script;
+use script_code::Script;
 use std::alloc::Global;
 use std::marker::Model;
 use strike_queue::Strikes;

@@ -25,7 +25,7 @@ use crate::fiber::Fiber;
 use crate::standing::{Next, Role, Standing};
 use eio_value::{NoMemory, Outcome, Raised, Texts, Value};
 use fiber_step::{Ask, Fiber as Frames, Variables, first_node};
-use script_lang::Script;
+use script_code::Script;
 use slab::Slab;
 use std::alloc::Global;
 use std::marker::Model;

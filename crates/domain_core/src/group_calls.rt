@@ -13,7 +13,7 @@ ghost use Rattle.machine_model.specs.GroupMoves.{branch_ended, own_ended};
 ghost use Rattle.row_model.specs.Groups.{group_at};
 ghost use Rattle.script_forms.specs.Calls.{group_of};
 ghost use Rattle.script_forms.specs.Flat.{nodes_of};
-ghost use Rattle.script_lang.specs.Standing.{block_at};
+ghost use Rattle.script_code.specs.Standing.{block_at};
 ghost use Rattle.script_forms.specs.declared.node.Node.{Node as Begun};
 ghost use Rattle.script_model.specs.Scripts.{Script as Read};
 ghost use Rattle.step_model.specs.Replies.{begun};
@@ -29,7 +29,8 @@ use crate::told::Told;
 use eio_value::{NoMemory, Outcome, Plain};
 use fiber_step::{Ask, Fiber as Frames, Variables, branch_bodies};
 use group_core::{GroupKind, JoinStep};
-use script_lang::{Group, Script};
+use script_code::Script;
+use script_forms::Group;
 use trace_out::{Did, Said2};
 
 impl Domain {

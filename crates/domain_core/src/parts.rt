@@ -23,7 +23,7 @@ use crate::domain::Domain;
 use crate::standing::{Next, Standing};
 use eio_value::{Member, NoMemory, Plain, Raised, Value, reason};
 use fiber_step::Ask;
-use script_lang::Script;
+use script_code::Script;
 
 impl Domain {
     /// The fiber goes on so with its next move, and stands first in the ready list.

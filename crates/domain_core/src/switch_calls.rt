@@ -18,7 +18,8 @@ use crate::standing::{Next, Role};
 use crate::told::Told;
 use eio_value::{Misuse, NoMemory, Plain, Raised, TextId, Value};
 use fiber_step::{Ask, Fiber as Frames, Variables};
-use script_lang::{Forking, Script};
+use script_code::Script;
+use script_forms::Forking;
 use switch_core::{Handler, Variables as Registered};
 use trace_out::{Did, Said2};
 

@@ -22,7 +22,8 @@ use crate::standing::{Again, Next, Standing};
 use crate::told::Told;
 use eio_value::{Extras, NoMemory, Outcome, Plain, Raised, Texts, Value};
 use fiber_step::Ask;
-use script_lang::{Forking, Script};
+use script_code::Script;
+use script_forms::Forking;
 use trace_out::Line;
 
 /// What a turn of a domain came to.

@@ -7,7 +7,7 @@ use Rattle.script_model.specs.Syntax as syntax
 use Rattle.script_model.specs.Syntax.{NoBlocks}
 use Rattle.script_laws.specs.Soundness.{HasItsBranches}
 use Rattle.script_forms.specs.Calls.{group_of}
-use Rattle.script_lang.specs.Standing.{blocks_at, States}
+use Rattle.script_code.specs.Standing.{blocks_at, States}
 use Rattle.script_forms.specs.declared.node.Group.{Group}
 use Rattle.script_forms.specs.declared.node.Group.TheVariants as group
 use Rattle.script_forms.specs.declared.node.Node.{Node}

@@ -6,7 +6,7 @@ use Rattle.std.specs.Option.{unwrap_or}
 use Rattle.std.proofs.lemmas.List.{length_push}
 use Rattle.std.proofs.lemmas.Option.{slice_get_within}
 use Rattle.script_model.specs.Syntax.{Block, Begins, Done}
-use Rattle.script_lang.specs.Standing.{block_at, blocks_at}
+use Rattle.script_code.specs.Standing.{block_at, blocks_at}
 use Rattle.script_forms.specs.declared.node.Group.{Group}
 use Rattle.script_forms.specs.declared.node.Node.{Node}
 use Rattle.script_forms.specs.declared.node.Node.TheVariants as node

@@ -6,7 +6,7 @@ use Rattle.eio_value.specs.declared.value.Value.{Value}
 use Rattle.script_model.specs.Syntax as syntax
 use Rattle.script_model.specs.Syntax.{Statement}
 use Rattle.script_forms.specs.Calls.{forking_of, object_call_of, reader_call_of}
-use Rattle.script_lang.specs.Standing.{block_at}
+use Rattle.script_code.specs.Standing.{block_at}
 use Rattle.script_forms.specs.declared.node.Forking.{Forking}
 use Rattle.script_forms.specs.declared.node.Node.{Node}
 use Rattle.script_forms.specs.declared.node.Node.TheVariants as node

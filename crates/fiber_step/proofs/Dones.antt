@@ -5,7 +5,7 @@ use Rattle.eio_value.specs.declared.value.Value.{Value}
 use Rattle.eio_value.specs.declared.value.Value.TheVariants as value
 use Rattle.script_model.specs.Syntax.{Statement, LetForm, If, Try}
 use Rattle.script_model.specs.Syntax as syntax
-use Rattle.script_lang.specs.Standing.{statements_at, block_at}
+use Rattle.script_code.specs.Standing.{statements_at, block_at}
 use Rattle.script_forms.specs.declared.node.ObjectCall.TheVariants as object
 use Rattle.step_model.specs.Asks as model
 use Rattle.step_model.specs.Settling.{Settled, answered}

@@ -6,7 +6,7 @@ use Rattle.script_model.specs.Syntax as syntax
 use Rattle.script_model.specs.Syntax.{Expression}
 use Rattle.script_forms.specs.Calls.{operator_in}
 use Rattle.script_forms.specs.Flat.{flat_expression}
-use Rattle.script_lang.specs.Standing.{expression_at, behind_expression}
+use Rattle.script_code.specs.Standing.{expression_at, behind_expression}
 use Rattle.script_forms.specs.declared.node.Node.{Node}
 use Rattle.script_forms.specs.declared.node.Node.TheVariants as node
 use Rattle.script_forms.specs.declared.node.Operator.{Operator}

@@ -6,7 +6,7 @@ use Rattle.eio_value.specs.declared.value.Value.{Value}
 use Rattle.eio_value.specs.declared.value.Value.TheVariants as value
 use Rattle.script_forms.specs.Calls.{operator_of}
 use Rattle.script_forms.specs.Flat.{flat_expression}
-use Rattle.script_lang.specs.Standing.{expression_at, behind_expression, Stands}
+use Rattle.script_code.specs.Standing.{expression_at, behind_expression, Stands}
 use Rattle.script_forms.specs.declared.node.Node.{Node}
 use Rattle.script_forms.specs.declared.node.Node.TheVariants as node
 use Rattle.script_forms.specs.declared.node.Operator.{Operator}

@@ -7,8 +7,8 @@ use Rattle.script_model.specs.Scripts.{Script}
 use Rattle.script_model.specs.Syntax.{Block, Begins, Statements}
 use Rattle.script_laws.specs.Soundness.{Known, IsSound, IsSoundBlock, in_body, kinds_of}
 use Rattle.script_forms.specs.Flat.{flat_statements, flat_bodies, nodes_of}
-use Rattle.script_lang.specs.Numbered.{AreNumbered, IsNumberedBlock, AreNumberedBodies, HasNumbers}
-use Rattle.script_lang.specs.Standing.{statements_at, block_at}
+use Rattle.script_code.specs.Numbered.{AreNumbered, IsNumberedBlock, AreNumberedBodies, HasNumbers}
+use Rattle.script_code.specs.Standing.{statements_at, block_at}
 use Rattle.script_forms.specs.declared.node.Node.{Node}
 use Rattle.fiber_step.specs.Having.{HasStatements}
 use Rattle.fiber_step.proofs.Places.{Here, behind_these, in_turn}

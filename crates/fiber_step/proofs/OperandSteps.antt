@@ -6,7 +6,7 @@ use Rattle.eio_value.specs.declared.value.Value.{Value}
 use Rattle.script_model.specs.Syntax as syntax
 use Rattle.script_model.specs.Syntax.{Statement}
 use Rattle.script_forms.specs.Calls.{object_call_with_of, path_call_of, directory_of}
-use Rattle.script_lang.specs.Standing.{block_at, expression_at, behind_expression, expressions_at, behind_expressions}
+use Rattle.script_code.specs.Standing.{block_at, expression_at, behind_expression, expressions_at, behind_expressions}
 use Rattle.script_forms.specs.declared.node.Directory.{Directory}
 use Rattle.script_forms.specs.declared.node.Node.{Node}
 use Rattle.script_forms.specs.declared.node.Node.TheVariants as node

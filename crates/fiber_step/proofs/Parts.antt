@@ -8,9 +8,9 @@ use Rattle.script_laws.specs.Soundness as sound
 use Rattle.script_laws.specs.Soundness.{Known, IsSoundStatement, IsSoundBlock, AreSoundStatements, AreSoundBlocks, HasItsBranches, with_slot, in_job, behind, block_count}
 use Rattle.script_forms.specs.Calls.{group_in, forking_in, object_call_in, object_call_with_in, reader_call_in, path_call_in, directory_in}
 use Rattle.script_forms.specs.Flat.{flat_expression, flat_expressions, expression_count, numbers_of, flat_statement, flat_statements, flat_blocks}
-use Rattle.script_lang.specs.Numbered.{IsNumbered, IsNumberedBlock, AreNumbered, AreNumberedBlocks}
-use Rattle.script_lang.specs.ScriptCode.{group_back}
-use Rattle.script_lang.specs.Standing.{behind_expression, behind_expressions}
+use Rattle.script_code.specs.Numbered.{IsNumbered, IsNumberedBlock, AreNumbered, AreNumberedBlocks}
+use Rattle.script_code.specs.ScriptCode.{group_back}
+use Rattle.script_code.specs.Standing.{behind_expression, behind_expressions}
 use Rattle.script_forms.specs.declared.node.Node.{Node}
 use Rattle.script_forms.specs.declared.node.Node.TheVariants as node
 use Rattle.script_model.specs.Kinds.{VariableKind, ContextKind, SwitchKind, ReaderKind, WriterKind, CapabilityKind}

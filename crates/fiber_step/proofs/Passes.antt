@@ -5,7 +5,7 @@ use Rattle.eio_value.specs.declared.raised.Outcome.{Outcome}
 use Rattle.eio_value.specs.declared.raised.Outcome.TheVariants as outcome
 use Rattle.eio_value.specs.declared.value.Value.{Value}
 use Rattle.eio_value.specs.declared.value.Value.TheVariants as value
-use Rattle.script_lang.specs.Standing.{statements_at}
+use Rattle.script_code.specs.Standing.{statements_at}
 use Rattle.script_forms.specs.declared.node.Node.{Node}
 use Rattle.step_model.specs.Asks as model
 use Rattle.step_model.specs.Settling.{Settled, answered, thrown, resource_of}

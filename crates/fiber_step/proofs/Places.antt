@@ -5,9 +5,9 @@ use Rattle.std.proofs.lemmas.List.{drop-drop}
 use Rattle.std.proofs.Math.Seq.{drop-append_seam}
 use Rattle.script_model.specs.Syntax.{Expression}
 use Rattle.script_forms.specs.Flat.{flat_expression}
-use Rattle.script_lang.specs.ScriptCode.{unflat_expression}
-use Rattle.script_lang.specs.Standing.{expression_at}
-use Rattle.script_lang.specs.Unflat.{operand, unflat}
+use Rattle.script_code.specs.ScriptCode.{unflat_expression}
+use Rattle.script_code.specs.Standing.{expression_at}
+use Rattle.script_code.specs.Unflat.{operand, unflat}
 use Rattle.script_forms.specs.declared.node.Node.{Node}
 
 -- these nodes stand from this number on

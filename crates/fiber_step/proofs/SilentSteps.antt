@@ -7,9 +7,9 @@ use Rattle.eio_value.specs.declared.value.Value.TheVariants as value
 use Rattle.script_model.specs.Syntax as syntax
 use Rattle.script_model.specs.Syntax.{Expression, Statement, Statements, Block, Then}
 use Rattle.script_forms.specs.Flat.{flat_statements}
-use Rattle.script_lang.specs.ScriptCode.{unflat_statements}
-use Rattle.script_lang.specs.Standing.{statements_at, block_at, expression_at, behind_expression, States}
-use Rattle.script_lang.specs.Unflat.{Behind, first_rest, bound, unflat}
+use Rattle.script_code.specs.ScriptCode.{unflat_statements}
+use Rattle.script_code.specs.Standing.{statements_at, block_at, expression_at, behind_expression, States}
+use Rattle.script_code.specs.Unflat.{Behind, first_rest, bound, unflat}
 use Rattle.script_forms.specs.declared.node.Node.{Node}
 use Rattle.script_forms.specs.declared.node.Node.TheVariants as node
 use Rattle.step_model.specs.Evaluation.{Is, Raises, value_of, number_of}

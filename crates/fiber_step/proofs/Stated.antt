@@ -8,11 +8,11 @@ use Rattle.eio_value.specs.declared.value.TextId.{TextId}
 use Rattle.eio_value.specs.declared.value.Value.{Value}
 use Rattle.eio_value.specs.declared.value.Value.TheVariants as value
 use Rattle.script_model.specs.Syntax.{Statement, Give, Expression, Statements, Done, Then}
-use Rattle.script_lang.specs.Standing.{statements_at, expression_at, behind_expression, Stands}
+use Rattle.script_code.specs.Standing.{statements_at, expression_at, behind_expression, Stands}
 use Rattle.script_forms.specs.Flat.{flat_statements}
-use Rattle.script_lang.specs.ScriptCode.{unflat_statements}
-use Rattle.script_lang.specs.Unflat as unflat
-use Rattle.script_lang.specs.Unflat.{first_rest}
+use Rattle.script_code.specs.ScriptCode.{unflat_statements}
+use Rattle.script_code.specs.Unflat as unflat
+use Rattle.script_code.specs.Unflat.{first_rest}
 use Rattle.script_forms.specs.declared.node.Node.{Node}
 use Rattle.script_forms.specs.declared.node.Node.TheVariants as node
 use Rattle.step_model.specs.Evaluation.{Evaluated, Is, Raises, value_of}

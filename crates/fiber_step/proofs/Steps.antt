@@ -3,8 +3,8 @@ use Rattle.std.proofs.Common.{◌≡◌, ℕ, List, sym, ap, ◌∙◌, subst}
 use Rattle.eio_value.specs.declared.plain.Plain.{Plain}
 use Rattle.eio_value.specs.declared.value.Value.{Value}
 use Rattle.script_model.specs.Syntax.{Statement, Then}
-use Rattle.script_lang.specs.Standing.{statements_at, States, Stands}
-use Rattle.script_lang.specs.Texted.{HasTextOfNode}
+use Rattle.script_code.specs.Standing.{statements_at, States, Stands}
+use Rattle.script_code.specs.Texted.{HasTextOfNode}
 use Rattle.script_forms.specs.declared.node.Node.{Node}
 use Rattle.step_model.specs.Evaluation.{Evaluated, Is, Raises}
 use Rattle.step_model.specs.Silent.{Went, asks, raises, statement, with_value}

@@ -13,7 +13,7 @@ use Rattle.eio_value.specs.declared.raised.Raised.{Raised}
 use Rattle.eio_value.specs.declared.raised.Raised.TheVariants.{One}
 use Rattle.eio_value.specs.declared.value.TextId.{TextId}
 use Rattle.eio_value.specs.declared.value.Value.TheVariants as value
-use Rattle.script_lang.specs.Standing.{statements_at}
+use Rattle.script_code.specs.Standing.{statements_at}
 use Rattle.script_forms.specs.declared.node.Node.{Node}
 use Rattle.step_model.specs.Asks as model
 use Rattle.step_model.specs.Settling.{Settled, answered, thrown}

@@ -2,7 +2,7 @@
 use Rattle.std.proofs.Common.{◌≡◌, ℕ, zero, suc, ◌+◌, ◌-◌, ◌<◌, ◌≤◌, List, [], ◌∷◌, ◌++◌, length, refl, sym, ap, ◌∙◌, subst, append_assoc, length-append, append-nil, arith}
 use Rattle.eio_value.specs.declared.plain.Plain.{Plain}
 use Rattle.eio_value.specs.declared.value.Value.{Value}
-use Rattle.script_lang.specs.Standing.{expression_at, behind_expression, expressions_at, behind_expressions}
+use Rattle.script_code.specs.Standing.{expression_at, behind_expression, expressions_at, behind_expressions}
 use Rattle.script_forms.specs.declared.node.Node.{Node}
 use Rattle.step_model.specs.Evaluation.{Evaluated, Is, Raises, value_of, values_of, ◌then◌}
 use Rattle.fiber_step.specs.Having.{HasExpression, HasExpressions}

@@ -7,8 +7,8 @@ use Rattle.script_model.specs.Syntax.{Expression, Statement, Statements, Then}
 use Rattle.script_laws.specs.Soundness.{Known, IsSoundStatement, AreSoundStatements, HasItsBranches}
 use Rattle.script_forms.specs.Calls.{group_of}
 use Rattle.script_forms.specs.Flat.{flat_expression, flat_statements}
-use Rattle.script_lang.specs.Numbered.{AreNumbered}
-use Rattle.script_lang.specs.Standing.{behind_expression, behind_expressions}
+use Rattle.script_code.specs.Numbered.{AreNumbered}
+use Rattle.script_code.specs.Standing.{behind_expression, behind_expressions}
 use Rattle.script_forms.specs.declared.node.Node.{Node}
 use Rattle.script_forms.specs.declared.node.Node.TheVariants as node
 

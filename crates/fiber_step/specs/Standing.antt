@@ -7,7 +7,7 @@ use Rattle.eio_value.specs.declared.value.Value.{Value}
 use Rattle.eio_value.specs.declared.value.Value.TheVariants as value
 use Rattle.script_model.specs.Syntax.{Blocks, NoBlocks}
 use Rattle.script_forms.specs.Calls.{group_of, forking_of, object_call_of, object_call_with_of, reader_call_of, path_call_of}
-use Rattle.script_lang.specs.Standing.{statements_at, block_at, blocks_at}
+use Rattle.script_code.specs.Standing.{statements_at, block_at, blocks_at}
 use Rattle.script_forms.specs.declared.node.Node.{Node}
 use Rattle.script_forms.specs.declared.node.Node.TheVariants as node
 use Rattle.step_model.specs.Asks as model

@@ -1,8 +1,8 @@
 -- What the statements that are left of a block do.
 use Rattle.std.specs.Prelude.{◌≡◌, ◌<◌, ◌^◌, ◌+◌, ℕ, zero, suc, length, List, Some, slice_get, Bool, true, false}
 use Rattle.script_model.specs.Syntax.{Statement, LetForm, Statements}
-use Rattle.script_lang.specs.Standing.{statements_at, Stands}
-use Rattle.script_lang.specs.Unflat.{bound}
+use Rattle.script_code.specs.Standing.{statements_at, Stands}
+use Rattle.script_code.specs.Unflat.{bound}
 use Rattle.script_forms.specs.declared.node.Node.{Node}
 use Rattle.script_forms.specs.declared.node.Node.TheVariants as node
 use Rattle.step_model.specs.Silent.{statement}

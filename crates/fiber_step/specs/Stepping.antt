@@ -7,8 +7,8 @@ use Rattle.eio_value.specs.declared.plain.Plain.TheVariants.{Failure, Invalid}
 use Rattle.eio_value.specs.declared.value.Value.{Value}
 use Rattle.eio_value.specs.declared.value.Value.TheVariants as value
 use Rattle.script_model.specs.Syntax as syntax
-use Rattle.script_lang.specs.Standing.{statements_at, block_at}
-use Rattle.script_lang.specs.Texted.{IsAmong}
+use Rattle.script_code.specs.Standing.{statements_at, block_at}
+use Rattle.script_code.specs.Texted.{IsAmong}
 use Rattle.script_forms.specs.declared.node.Group.{Group}
 use Rattle.script_forms.specs.declared.node.Group.TheVariants as group
 use Rattle.script_forms.specs.declared.node.Node.{Node}

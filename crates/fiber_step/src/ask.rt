@@ -3,7 +3,7 @@
 ghost use Rattle.std.specs.Prelude.{◌≡◌};
 
 use eio_value::{Operands, Outcome, Raised, TextId, Value};
-use script_lang::{Forking, Group, ObjectCall, ObjectCallWith, PathCall, ReaderCall};
+use script_forms::{Forking, Group, ObjectCall, ObjectCallWith, PathCall, ReaderCall};
 
 /// A directory: a declared one, or the one that an opening answered, by its number.
 #[derive(Clone, Copy)]

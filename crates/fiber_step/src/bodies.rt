@@ -3,9 +3,9 @@
 ghost use Rattle.std.specs.Prelude.{◌≡◌, ◌<◌, length, Some, slice_get};
 ghost use Rattle.fiber_step.specs.Having.{HasStatements};
 ghost use Rattle.script_forms.specs.Flat.{nodes_of};
-ghost use Rattle.script_lang.specs.Standing.{block_at};
+ghost use Rattle.script_code.specs.Standing.{block_at};
 
-use script_lang::Script;
+use script_code::Script;
 
 /// The number of the first node of a body. Main is the first body.
 pub fn first_node(script: &Script, body: u8) -> u32

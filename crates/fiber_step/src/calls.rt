@@ -13,7 +13,8 @@ use crate::ask::Ask;
 use crate::step::{Step, Stepped};
 use crate::variables::Scope;
 use eio_value::Operands;
-use script_lang::{Node, Script};
+use script_code::Script;
+use script_forms::Node;
 
 /// The step of a statement that calls, and has neither operands nor blocks. Other statements have none here.
 pub(crate) fn call_at_once(script: &Script, number: u32, variables: &Scope) -> Option<Stepped>

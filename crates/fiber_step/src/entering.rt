@@ -9,7 +9,7 @@ ghost use Rattle.fiber_step.specs.Stepping.{HasBranchBodies, HasBodiesOf};
 ghost use Rattle.fiber_step.specs.Kept.{position_of};
 ghost use Rattle.fiber_step.specs.Standing.{ask_of, branches_at};
 ghost use Rattle.script_forms.specs.Flat.{nodes_of};
-ghost use Rattle.script_lang.specs.Standing.{block_at};
+ghost use Rattle.script_code.specs.Standing.{block_at};
 ghost use Rattle.script_forms.specs.declared.node.Node.{Node as Begun};
 ghost use Rattle.step_model.specs.Replies as model;
 ghost use Rattle.step_model.specs.Silent.{blocks_of};
@@ -19,7 +19,8 @@ use crate::fiber::Fiber;
 use crate::mark::Mark;
 use crate::variables::Variables;
 use eio_value::{NoMemory, Value};
-use script_lang::{Node, Script};
+use script_code::Script;
+use script_forms::Node;
 
 /// The blocks of the branches of a form, in the order that they stand in, each by the node that it begins with. The last one is
 /// the one that the caller runs.

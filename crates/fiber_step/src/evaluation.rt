@@ -9,13 +9,14 @@ ghost use Rattle.fiber_step.specs.Having.{HasExpression, HasExpressions};
 ghost use Rattle.script_model.specs.Limits.{most_traced};
 ghost use Rattle.script_forms.specs.Calls.{operator_of};
 ghost use Rattle.script_forms.specs.Flat.{nodes_of};
-ghost use Rattle.script_lang.specs.Standing.{expression_at, behind_expression, expressions_at, behind_expressions};
+ghost use Rattle.script_code.specs.Standing.{expression_at, behind_expression, expressions_at, behind_expressions};
 ghost use Rattle.step_model.specs.Evaluation as evaluation;
 ghost use Rattle.step_model.specs.Evaluation.{value_of, values_of, number_of, text_of};
 
 use crate::variables::Scope;
 use eio_value::{Misuse, Operands, TextId, Value};
-use script_lang::{Node, Operator, Script};
+use script_code::Script;
+use script_forms::{Node, Operator};
 
 /// The value of an expression, and the number of the node behind it.
 #[derive(Clone, Copy)]

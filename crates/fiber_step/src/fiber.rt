@@ -7,7 +7,7 @@ ghost use Rattle.std.specs.Prelude.{◌≡◌, ◌≤◌, ◌<◌, ◌+◌, List
 ghost use Rattle.fiber_step.specs.Having.{HasStatements};
 ghost use Rattle.fiber_step.specs.Kept.{position_of};
 ghost use Rattle.fiber_step.specs.Placing.{ArePlaced};
-ghost use Rattle.script_lang.specs.Standing.{block_at};
+ghost use Rattle.script_code.specs.Standing.{block_at};
 ghost use Rattle.script_forms.specs.declared.node.Node.{Node};
 ghost use Rattle.step_model.specs.Replies.{begun, begun_promising};
 

@@ -14,7 +14,8 @@ use crate::evaluation::{evaluate, evaluate_all, evaluate_number, evaluate_text};
 use crate::step::{Step, Stepped};
 use crate::variables::Scope;
 use eio_value::Misuse;
-use script_lang::{Directory, Node, Script};
+use script_code::Script;
+use script_forms::{Directory, Node};
 
 /// The step of a statement that calls with operands of any kind. Other statements have none here.
 pub(crate) fn call_with_operands(

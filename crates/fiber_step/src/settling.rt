@@ -17,7 +17,7 @@ use crate::fiber::Fiber;
 use crate::mark::Mark;
 use crate::turn::Turn;
 use eio_value::{NoMemory, Outcome, Raised, Texts, Value};
-use script_lang::Script;
+use script_code::Script;
 
 impl<'f> Draft<'f> {
     ghost use Rattle.eio_value.specs.declared.raised.Outcome.TheVariants as outcome;

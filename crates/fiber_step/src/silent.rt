@@ -14,7 +14,8 @@ use crate::evaluation::{evaluate, evaluate_number};
 use crate::step::{Step, Stepped};
 use crate::variables::Scope;
 use eio_value::{Misuse, Value};
-use script_lang::{Group, Node, Script};
+use script_code::Script;
+use script_forms::{Group, Node};
 
 /// The step of a statement that goes into a block with nothing evaluated before. Other statements have none here.
 pub(crate) fn block_at_once(script: &Script, number: u32) -> Option<Stepped>

@@ -12,7 +12,8 @@ use crate::mark::Mark;
 use crate::step::{Step, Stepped, step_at};
 use crate::turn::Turn;
 use eio_value::{NoMemory, Plain, Texts, Value};
-use script_lang::{Node, ObjectCall, Script};
+use script_code::Script;
+use script_forms::{Node, ObjectCall};
 
 /// The number of the form behind the `let`s that begin here.
 fn form_of(script: &Script, number: u32) -> u32
@@ -30,7 +31,7 @@ impl<'f> Draft<'f> {
     ghost use Rattle.eio_value.specs.declared.raised.Outcome.TheVariants as outcome;
     ghost use Rattle.eio_value.specs.declared.value.Value.{Value as Held};
     ghost use Rattle.std.specs.Prelude.{◌+◌, ℕ, true};
-    ghost use Rattle.script_lang.specs.Standing.{Stands};
+    ghost use Rattle.script_code.specs.Standing.{Stands};
     ghost use Rattle.script_forms.specs.declared.node.Node.{Node as Begun};
     ghost use Rattle.script_forms.specs.declared.node.Node.TheVariants as node;
     ghost use Rattle.fiber_step.specs.Having.{HasExpression};

@@ -14,7 +14,7 @@ use crate::operand_calls::{call_on_path, call_with_operands};
 use crate::silent::{block_at_once, branching, step_within};
 use crate::variables::Scope;
 use eio_value::{Misuse, TextId, Value};
-use script_lang::Script;
+use script_code::Script;
 
 /// What a statement comes to.
 #[derive(Clone, Copy)]

@@ -8,9 +8,9 @@ use Rattle.script_model.specs.Refusals.{Refusal, TooLong, NoTree, NoScript, Mock
 use Rattle.script_model.specs.Results.{◌>>=◌}
 use Rattle.script_model.specs.Scripts.{Script, script_of}
 use Rattle.script_model.specs.Trees.{Tree}
-use Rattle.script_lang.proofs.ScriptNumbers.{script_has_numbers}
+use Rattle.script_code.proofs.ScriptNumbers.{script_has_numbers}
 use Rattle.step_model.specs.Numbered.{blocks_from}
-use Rattle.script_lang.specs.Numbered.{HasNumbers}
+use Rattle.script_code.specs.Numbered.{HasNumbers}
 use Rattle.std.specs.List.{flat_map, All}
 use Rattle.std.proofs.lemmas.List.Elements.{All-contains_itself}
 use Rattle.block_laws.proofs.Finding.{blocks_by_number}

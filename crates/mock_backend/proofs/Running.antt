@@ -10,7 +10,7 @@ use Rattle.std.proofs.lemmas.Grind.{flat_map-append}
 use Rattle.std.proofs.lemmas.List.Elements.{All-from_recursion}
 use Rattle.eio_value.specs.declared.value.TextId.{TextId}
 use Rattle.eio_value.specs.Table.{HasText}
-use Rattle.script_lang.specs.Texted.{IsAmong}
+use Rattle.script_code.specs.Texted.{IsAmong}
 use Rattle.script_model.specs.Opening.{opening_texts}
 use Rattle.script_model.specs.Scripts.{Script}
 use Rattle.script_model.specs.Syntax.{Block, Begins, Done}

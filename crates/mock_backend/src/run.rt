@@ -23,7 +23,7 @@ use crate::trace::write_line;
 use domain_core::{Domain, Turn};
 use eio_value::{NoMemory, Outcome, Texts, show_raised};
 use machine_model::Ending;
-use script_lang::Script;
+use script_code::Script;
 use std::alloc::Global;
 use trace_out::{Sink, write_all};
 

@@ -6,7 +6,7 @@ ghost use Rattle.script_model.specs.Inputs as inputs;
 ghost use Rattle.script_input.specs.Refusals.{Refuses};
 
 use script_input::{InputFault, Kind, Refusal, input_script};
-use script_lang::Script;
+use script_code::Script;
 use script_model::Feature;
 use std::alloc::Global;
 

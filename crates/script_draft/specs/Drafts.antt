@@ -1,6 +1,5 @@
 -- What is made of a script while it is read: the definitions' `Made`, with the nodes themselves.
-use Rattle.std.specs.Prelude.{ℕ, List, [], length, All}
-use Rattle.eio_value.specs.Table.{HasText}
+use Rattle.std.specs.Prelude.{ℕ, List, [], length}
 use Rattle.eio_value.specs.declared.value.TextId.{TextId}
 use Rattle.script_model.specs.Reads.{Formed, Made}
 use Rattle.script_forms.specs.declared.node.Node.{Node}
@@ -25,7 +24,3 @@ made_of draft = record {
 
 abbrev pub nothing_drafted : Drafted
 nothing_drafted = record { nodes = []; texts = []; failures = []; formed = []; steps = 0; entries = 0 }
-
--- the texts with which a fiber may fail stand in the table
-abbrev pub HasFailures : List (List ℕ) → List TextId → Type 0
-HasFailures texts failures = All (HasText texts) failures

@@ -6,29 +6,10 @@
 ghost use Rattle.std.specs.Prelude.{◌≡◌, ◌+◌, ◌<◌, [], ◌∷◌, ◌++◌, length, slice_set, OnOk, IfOk};
 
 use eio_value::{NoMemory, TextId, Texts};
-use script_forms::{Node, ScriptFault};
+use script_forms::{Formed, Node, ScriptFault};
 use script_model::Feature;
 use std::alloc::Global;
 use std::marker::Model;
-
-/// A form that was read.
-#[derive(Drop)]
-pub struct Formed {
-    /// The offset of its list in the input.
-    pub at: u32,
-    /// What brings it.
-    pub feature: Feature,
-    /// Whether it is for the mocked domain alone.
-    pub mocked: bool,
-}
-
-impl Model for Formed {
-    ghost use Rattle.script_model.specs.Reads.{Formed as Form};
-
-    ghost Value = { Form };
-
-    ghost view = { λ inside. record { at = inside.at; feature = inside.feature; mocked = inside.mocked } };
-}
 
 /// What was made of a whole script.
 #[derive(Drop)]
@@ -72,7 +53,7 @@ impl Model for Draft {
 
     ghost view = { λ inside. record { nodes = inside.nodes.items; texts = inside.texts; failures = inside.failures.items; formed = inside.formed.items; steps = inside.steps; entries = inside.entries } };
 
-    ghost use Rattle.script_draft.specs.Drafts.{HasFailures};
+    ghost use Rattle.script_forms.specs.Failures.{HasFailures};
 
     ghost invariant = { λ inside. (length inside.nodes.items < 2 ^ 32) × HasFailures inside.texts inside.failures.items };
 }
@@ -80,7 +61,8 @@ impl Model for Draft {
 impl Draft {
     ghost use Rattle.std.specs.Prelude.{◌≡◌, ◌+◌, ◌<◌, ◌^◌, [], ◌∷◌, ◌++◌, length, slice_set, OnOk, IfOk};
     ghost use Rattle.eio_value.specs.Table.{intern};
-    ghost use Rattle.script_draft.specs.Drafts.{nothing_drafted, HasFailures};
+    ghost use Rattle.script_draft.specs.Drafts.{nothing_drafted};
+    ghost use Rattle.script_forms.specs.Failures.{HasFailures};
     ghost use Rattle.script_model.specs.Reads.{one_step, one_entry};
     ghost use Rattle.script_draft.specs.Readings.{Makes};
     ghost use Rattle.script_forms.specs.declared.node.Node.TheVariants.{End};

@@ -11,7 +11,7 @@ mod limited;
 mod scope;
 
 pub use cursor::{Cursor, Number, Text, Word};
-pub use draft::{Draft, Finished, Formed};
+pub use draft::{Draft, Finished};
 pub use kind::Kind;
 pub use limited::number_within;
 pub use scope::{Named, Scope, named_in};

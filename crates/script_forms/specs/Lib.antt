@@ -1,5 +1,6 @@
 pub mod Calls
 pub mod Declaring
+pub mod Failures
 pub mod Faults
 pub mod Flat
 pub mod Heads

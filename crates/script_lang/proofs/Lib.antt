@@ -1,17 +1,4 @@
-pub mod OwnTexts
-pub mod NodeCounts
-pub mod BlockNumbers
-pub mod DeclarationsKeep
-pub mod ScriptNumbers
-pub mod NodesStand
-pub mod NodesGoOn
-pub mod TextsRead
-pub mod NodeTexts
-pub mod Fitting
-pub mod ScriptMade
 pub mod Building
 pub mod Generating
-pub mod Openings
-pub mod TextCopies
 pub mod ScriptsRead
 pub mod ScriptsWhole

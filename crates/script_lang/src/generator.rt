@@ -14,8 +14,8 @@ ghost use Rattle.script_tree.specs.Pieces.{pieces, row_pieces};
 ghost use Rattle.script_forms.specs.declared.fault.ScriptFault.TheVariants as variant;
 
 use crate::reader::read_script;
-use crate::script::Script;
 use eio_value::NoMemory;
+use script_code::Script;
 use script_forms::ScriptFault;
 use script_tree::{Tree, TreeBuilder};
 use std::alloc::Global;

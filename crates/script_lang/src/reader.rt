@@ -11,14 +11,14 @@ ghost use Rattle.script_declarations.specs.DeclarationsRead.{declared_of, IsAtMa
 ghost use Rattle.script_draft.specs.Drafts.{nothing_drafted};
 ghost use Rattle.script_forms.specs.declared.fault.ScriptFault.TheVariants as variant;
 ghost use Rattle.script_forms.specs.Faults.{Fails};
-ghost use Rattle.script_lang.specs.ScriptInside.{IsRead};
+ghost use Rattle.script_lang.specs.Outlines.{IsOutlined};
 ghost use Rattle.script_lang.specs.ScriptsRead.{domain_of, one_if, Bodied, Roots, Names};
 
-use crate::script::{Parts, Script};
-use eio_value::NoMemory;
+use eio_value::{NoMemory, TextId};
+use script_code::{Parts, Script};
 use script_declarations::declarations::{Declared, declarations as read_declarations, is_at_end};
-use script_draft::{Cursor, Draft, Scope};
-use script_forms::{ScriptFault, is_word};
+use script_draft::{Cursor, Draft, Finished, Scope};
+use script_forms::{Decl, ScriptFault, is_word};
 use script_statements::statements::statements;
 use script_tree::Tree;
 use std::alloc::Global;
@@ -35,22 +35,52 @@ pub fn read_script(alloc: Global, tree: &Tree) -> Result<Script, ScriptFault>
     ensures fault { IfErr result (λ fault. Fails fault (script_of tree.now)) }
 {
     let mut draft = Draft::new(alloc);
-    let parts = read_parts(tree, &mut draft)?;
-    Ok(Script::new(parts, draft)?)
+    let outline = read_outline(tree, &mut draft)?;
+    let parts = parts_of(outline, draft.finish());
+    Ok(Script::new(alloc, parts)?)
 }
 
-/// The parts of the script that a tree stands for, beside what goes into the draft, in which nothing stands yet.
-fn read_parts(tree: &Tree, draft: &mut Draft) -> Result<Parts, ScriptFault>
+/// What is read of a script beside its draft.
+#[derive(Drop)]
+struct Outline {
+    tree: Tree,
+    names: Vec<TextId>,
+    declarations: Vec<Decl>,
+    /// The numbers of the first nodes of the bodies.
+    bodies: Vec<u32>,
+    /// The place of the first body behind main.
+    first_domain: Option<u32>,
+}
+
+/// The parts of a script, of what was read beside its draft and of that.
+fn parts_of(outline: Outline, made: Finished) -> Parts
+    ensures { result ≡ record { tree = outline.tree; names = outline.names; declarations = outline.declarations; nodes = made.nodes; bodies = outline.bodies; texts = made.texts; failures = made.failures; formed = made.formed; first_domain = outline.first_domain } }
+{
+    Parts {
+        tree: outline.tree,
+        names: outline.names,
+        declarations: outline.declarations,
+        nodes: made.nodes,
+        bodies: outline.bodies,
+        texts: made.texts,
+        failures: made.failures,
+        formed: made.formed,
+        first_domain: outline.first_domain,
+    }
+}
+
+/// What a tree holds of a script beside what goes into the draft, in which nothing stands yet.
+fn read_outline(tree: &Tree, draft: &mut Draft) -> Result<Outline, ScriptFault>
     requires { draft.old ≡ nothing_drafted }
-    ensures tree { IfOk result (λ parts. parts.tree ≡ tree.now) }
-    ensures read { IfOk result (λ parts. IsRead parts draft.new) }
+    ensures tree { IfOk result (λ outline. outline.tree ≡ tree.now) }
+    ensures read { IfOk result (λ outline. IsOutlined outline draft.new) }
     ensures fault { IfErr result (λ fault. Fails fault (script_of tree.now)) }
 {
     let mut cursor = Cursor::new(tree.nodes());
     let count = root(&mut cursor)?;
     let declared = read_declarations(&mut cursor, draft, count)?;
     let bodies = bodies_behind(&cursor, draft, &declared)?;
-    Ok(parts_of(tree, draft.alloc(), declared, bodies)?)
+    Ok(outline_of(tree, draft.alloc(), declared, bodies)?)
 }
 
 /// The bodies behind these declarations, of which main comes next.
@@ -67,16 +97,16 @@ fn bodies_behind<'t>(
     read_bodies(&mut rest, draft, &scope)
 }
 
-/// The parts of a script that was read from this tree.
-fn parts_of(
+/// What was read from this tree.
+fn outline_of(
     tree: &Tree,
     alloc: Global,
     declared: Declared,
     bodies: Bodies,
-) -> Result<Parts, NoMemory>
-    ensures { IfOk result (λ parts. parts ≡ record { tree = tree.now; names = declared.entry.names; declarations = declared.entry.declarations; bodies = bodies.numbers; first_domain = bodies.first_domain }) }
+) -> Result<Outline, NoMemory>
+    ensures { IfOk result (λ outline. outline ≡ record { tree = tree.now; names = declared.entry.names; declarations = declared.entry.declarations; bodies = bodies.numbers; first_domain = bodies.first_domain }) }
 {
-    Ok(Parts {
+    Ok(Outline {
         tree: tree.copy(alloc)?,
         names: declared.names,
         declarations: declared.declarations,

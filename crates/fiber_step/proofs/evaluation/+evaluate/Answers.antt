@@ -2,7 +2,7 @@ use Rattle.std.proofs.Common.{rules, ◌≡◌, ◌+◌, ◌∙◌, sym, ap, sub
 use Rattle.std.proofs.lemmas.Int.{to_z-of_z}
 use Rattle.eio_value.specs.declared.value.Value.TheVariants.{Int}
 use Rattle.script_forms.specs.Flat.{nodes_of}
-use Rattle.script_lang.specs.Standing.{expression_at, behind_expression}
+use Rattle.script_code.specs.Standing.{expression_at, behind_expression}
 use Rattle.step_model.specs.Evaluation.{value_of, Is}
 use Rattle.fiber_step.specs.Evaluating.{operand_value}
 use Rattle.fiber_step.specs.Having.{HasExpression}

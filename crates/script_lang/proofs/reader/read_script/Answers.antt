@@ -1,17 +1,18 @@
 use Rattle.std.proofs.Common.{Ok, ap, sym, ◌∙◌}
 use Rattle.std.proofs.lemmas.Result.{err_from_is_err_and}
 use Rattle.script_model.specs.Scripts.{script_of}
+use Rattle.script_lang.proofs.Outlined.{is_read, is_script_of}
 use Rattle.script_lang.proofs.reader.read_script.Goals as goal
 
-pub returns-in_err-parts-clause-fault : goal.returns-in_err-parts-clause-fault
-returns-in_err-parts-clause-fault c =
+pub returns-in_err-outline-clause-fault : goal.returns-in_err-outline-clause-fault
+returns-in_err-outline-clause-fault c =
     let p = err_from_is_err_and c.from_residual.result c.from_residual.ensures.1 in
-    rw (p.1, p.2) c.in_err-parts.ensures.fault
+    rw (p.1, p.2) c.in_err-outline.ensures.fault
 
 pub new-requires : goal.new-requires
-new-requires c = c.in_ok-parts.ensures.read
+new-requires c = is_read _ _ _ _ c.in_ok-outline.ensures.read (finished _ _ c.finish.ensures) c.parts_of-parts.ensures
 
 pub returns-clause-ok : goal.returns-clause-ok
 returns-clause-ok c =
-    let read = c.in_ok-parts.ensures.read in
-    ap script_of (sym c.in_ok-parts.ensures.tree) ∙ (read.is.read ∙ ap Ok (sym (c.in_ok-new.ensures read.script read.is)))
+    let read = c.in_ok-outline.ensures.read in
+    ap script_of (sym c.in_ok-outline.ensures.tree) ∙ (read.is.read ∙ ap Ok (sym (c.in_ok-new.ensures read.script (is_script_of _ _ _ _ _ read.is c.finish.ensures c.parts_of-parts.ensures))))

@@ -1,7 +1,7 @@
 use Rattle.std.proofs.Common.{◌<◌, ◌≤◌, ◌∙◌, ℕ, List, ap, ap₂, sym, subst, refl}
 use Rattle.std.specs.Prelude.{count_by, is_some}
 use Rattle.script_forms.specs.Flat.{nodes_of}
-use Rattle.script_lang.specs.Standing.{block_at}
+use Rattle.script_code.specs.Standing.{block_at}
 use Rattle.script_forms.specs.declared.node.Node.{Node}
 use Rattle.trace_out.specs.declared.line.Did.{Did}
 use Rattle.trace_out.specs.declared.line.Said2.TheVariants as said

@@ -4,7 +4,7 @@ use Rattle.switch_core.specs.Attaching.{IsAttached}
 use Rattle.domain_core.specs.Conditions.{IsAttachedToNone, IsAwake}
 use Rattle.domain_core.specs.Mirrors.{Mirrors}
 use Rattle.step_model.specs.Replies.{begun}
-use Rattle.script_lang.specs.Standing.{block_at}
+use Rattle.script_code.specs.Standing.{block_at}
 use Rattle.domain_core.proofs.Making.{older_awake, new_awake, forks_mirrors}
 use Rattle.domain_core.proofs.domain.Domain.make.Goals as goal
 

@@ -6,7 +6,7 @@ use Rattle.trace_out.specs.declared.line.Said2.TheVariants as said
 use Rattle.script_model.specs.Scripts.{Script}
 use Rattle.script_laws.specs.Soundness.{IsSound}
 use Rattle.script_forms.specs.Flat.{nodes_of}
-use Rattle.script_lang.specs.Numbered.{HasNumbers}
+use Rattle.script_code.specs.Numbered.{HasNumbers}
 use Rattle.script_forms.specs.declared.node.Node.{Node}
 use Rattle.step_model.specs.Numbered.{block_numbered}
 use Rattle.step_model.specs.Replies.{handled}

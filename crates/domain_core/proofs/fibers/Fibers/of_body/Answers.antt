@@ -1,6 +1,6 @@
 use Rattle.std.proofs.Common.{◌∙◌, ap, List, [], ◌∷◌, ◌++◌, length, Option, Some}
 use Rattle.script_forms.specs.Flat.{nodes_of}
-use Rattle.script_lang.specs.Standing.{block_at}
+use Rattle.script_code.specs.Standing.{block_at}
 use Rattle.script_model.specs.Syntax.{Block}
 use Rattle.step_model.specs.Replies.{begun}
 use Rattle.machine_model.specs.Domain.{OfBody}

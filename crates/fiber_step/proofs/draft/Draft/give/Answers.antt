@@ -1,6 +1,6 @@
 use Rattle.std.proofs.Common.{◌+◌, ◌∙◌, ap}
 use Rattle.script_forms.specs.Flat.{nodes_of}
-use Rattle.script_lang.specs.Standing.{expression_at}
+use Rattle.script_code.specs.Standing.{expression_at}
 use Rattle.eio_value.specs.declared.plain.Plain.TheVariants.{Invalid}
 use Rattle.step_model.specs.Evaluation.{value_of}
 use Rattle.fiber_step.specs.Throwing.{shared_by}

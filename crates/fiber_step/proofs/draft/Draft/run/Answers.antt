@@ -1,6 +1,6 @@
 use Rattle.std.proofs.Common.{subst, arith}
 use Rattle.script_forms.specs.Flat.{nodes_of}
-use Rattle.script_lang.specs.Standing.{Stands}
+use Rattle.script_code.specs.Standing.{Stands}
 use Rattle.fiber_step.specs.Throwing.{shared_by}
 use Rattle.fiber_step.proofs.Parts.{left_within, begins}
 use Rattle.fiber_step.proofs.Stated.{block_ends, give_operand}

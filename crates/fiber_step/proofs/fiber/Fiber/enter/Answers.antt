@@ -1,7 +1,7 @@
 use Rattle.std.proofs.Common.{◌∙◌, ℕ, ap, false, true, length}
 use Rattle.eio_value.specs.declared.value.Value.TheVariants as value
 use Rattle.script_forms.specs.Flat.{nodes_of}
-use Rattle.script_lang.specs.Standing.{block_at}
+use Rattle.script_code.specs.Standing.{block_at}
 use Rattle.script_model.specs.Syntax.{Block}
 use Rattle.step_model.specs.Replies as model
 use Rattle.step_model.specs.Replies.{into, into_with}

@@ -1,0 +1,13 @@
+pub mod OwnTexts
+pub mod NodeCounts
+pub mod BlockNumbers
+pub mod DeclarationsKeep
+pub mod ScriptNumbers
+pub mod NodesStand
+pub mod NodesGoOn
+pub mod TextsRead
+pub mod NodeTexts
+pub mod Fitting
+pub mod ScriptMade
+pub mod Openings
+pub mod TextCopies

@@ -1,0 +1,16 @@
+use Rattle.std.proofs.Common.{subst}
+use Rattle.script_laws.specs.Soundness.{IsSound}
+use Rattle.script_laws.proofs.Scripts.{script_is_sound}
+use Rattle.script_code.specs.Numbered.{HasNumbers}
+use Rattle.script_code.specs.ScriptInside.{view_of}
+use Rattle.script_code.proofs.Fitting.{tree_fits}
+use Rattle.script_code.proofs.ScriptNumbers.{script_has_numbers}
+use Rattle.script_code.proofs.script.Script.is_sound.Goals as goal
+
+pub returns-clause-sound : goal.returns-clause-sound
+returns-clause-sound c =
+    subst IsSound c.self.view_is
+    (script_is_sound c.self.inside.tree (tree_fits c.self.inside.tree c.numbers_fit.ensures) (view_of c.self.inside) c.self.invariant.read)
+
+pub returns-clause-numbers : goal.returns-clause-numbers
+returns-clause-numbers c = subst HasNumbers c.self.view_is (script_has_numbers c.self.inside.tree (view_of c.self.inside) c.self.invariant.read)
