@@ -1,3 +1,4 @@
+pub mod Outlined
 pub mod Building
 pub mod Generating
 pub mod ScriptsRead
