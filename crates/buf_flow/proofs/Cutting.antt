@@ -2,8 +2,8 @@
 -- The idea: what decides a call stays decided by all the bytes to come, and leaves those to the next call.
 use Rattle.std.proofs.Common.{◌≡◌, ◌≢◌, ℕ, List, [], ◌∷◌, ◌++◌, Bool, true, false, refl, ap, sym, ◌∙◌, append_assoc, append-nil}
 use Rattle.std.specs.List.{concat}
-use Rattle.row_model.specs.BytesToCome.{ReaderCall, Item, Bytes, Flag, EndOfFile, BufferLimit, NeedMore, Taken, taken}
-use Rattle.row_model.specs.Readers.{Reader, new_reader, feed, finish, item}
+use Rattle.spec_parts.specs.BytesToCome.{ReaderCall, Item, Bytes, Flag, EndOfFile, BufferLimit, NeedMore, Taken, taken}
+use Rattle.spec_parts.specs.Readers.{Reader, new_reader, feed, finish, item}
 use Rattle.buf_flow.specs.Cuts.{with_behind, given_at_once, Asked, asked, unless_more, ask, given_of_pieces, GivenAsAtOnce, CutsAlike}
 use Rattle.buf_flow.proofs.Deciding.{decided_stays}
 

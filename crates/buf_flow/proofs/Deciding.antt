@@ -4,7 +4,7 @@ use Rattle.std.proofs.lemmas.Grind.{common_steps}
 use Rattle.std.proofs.lemmas.List.{length-append, length-take, take-append-le, drop-append-le, take_all, get_or_append_left}
 use Rattle.std.proofs.lemmas.List.Quantifiers.{position-Some}
 use Rattle.std.specs.Prelude.{◌==◌, nat_lt, position}
-use Rattle.row_model.specs.BytesToCome.{Line, TakeBytes, TakeAll, Char, AtEnd, NeedMore, BufferLimit, Taken, gives, leaves, too_few, without_cr, line_end, last_line, line, counted, take_bytes, whole, take_all as all_bytes, at_end}
+use Rattle.spec_parts.specs.BytesToCome.{Line, TakeBytes, TakeAll, Char, AtEnd, NeedMore, BufferLimit, Taken, gives, leaves, too_few, without_cr, line_end, last_line, line, counted, take_bytes, whole, take_all as all_bytes, at_end}
 use Rattle.buf_flow.specs.Cuts.{with_behind, DecidedStays, EndDecides, UndecidedLeaves}
 use Rattle.buf_flow.proofs.Lines.{first_line_feed, searched_before}
 

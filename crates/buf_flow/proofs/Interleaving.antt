@@ -1,7 +1,7 @@
 -- Whatever happens to a reader: the calls that are decided give what they give of all bytes at once.
 use Rattle.std.proofs.Common.{◌≡◌, ◌≢◌, ℕ, List, [], ◌∷◌, ◌++◌, Bool, true, false, refl, ap, sym, ◌∙◌, append_assoc}
-use Rattle.row_model.specs.BytesToCome.{ReaderCall, Item, Bytes, Flag, EndOfFile, BufferLimit, NeedMore, Taken, taken}
-use Rattle.row_model.specs.Readers.{Reader, new_reader, feed, finish, item, after_item}
+use Rattle.spec_parts.specs.BytesToCome.{ReaderCall, Item, Bytes, Flag, EndOfFile, BufferLimit, NeedMore, Taken, taken}
+use Rattle.spec_parts.specs.Readers.{Reader, new_reader, feed, finish, item, after_item}
 use Rattle.buf_flow.specs.Cuts.{with_behind, given_at_once}
 use Rattle.buf_flow.specs.Histories.{Event, Comes, Ends, Asks, IsInOrder, bytes_in, Given, before, given, HistoriesAsAtOnce, HistoriesAlike}
 use Rattle.buf_flow.proofs.Cutting.{given_of_all}

@@ -6,7 +6,7 @@ use Rattle.std.proofs.lemmas.List.Quantifiers.{position-Some}
 use Rattle.std.proofs.lemmas.List.Sums.{position_or_len_is}
 use Rattle.std.specs.Prelude.{◌==◌, nat_lt, position}
 use Rattle.std.specs.List.{position_or_len}
-use Rattle.row_model.specs.BytesToCome.{without_cr}
+use Rattle.spec_parts.specs.BytesToCome.{without_cr}
 use Rattle.buf_flow.specs.LineFeeds.{HasNoLineFeed}
 
 -- a CR at the end is dropped

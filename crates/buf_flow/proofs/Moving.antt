@@ -5,9 +5,9 @@ use Rattle.std.specs.Prelude.{◌⊎◌}
 use Rattle.eio_value.specs.declared.flow_step.FlowStep.{FlowStep}
 use Rattle.eio_value.specs.declared.flow_step.FlowStep.TheVariants.{Data, Fault, Pause}
 use Rattle.eio_value.specs.declared.value.TextId.{TextId}
-use Rattle.row_model.specs.BytesToCome.{ReaderCall, Item, Bytes, Flag, EndOfFile, BufferLimit, NeedMore, Taken, taken, ToCome, with_front, bytes_to_come, Answer, Gives, Fails, unless_undecided, answer}
-use Rattle.row_model.specs.Flows.{next_step, behind_next}
-use Rattle.row_model.specs.Readers.{Reader, feed, finish, item, after_item, still_to_come, Reading, Answers, ReadsOn, GivesWay, Raises, MeetsClosed, Read, answered_or, read_once, read_open, read_move}
+use Rattle.spec_parts.specs.BytesToCome.{ReaderCall, Item, Bytes, Flag, EndOfFile, BufferLimit, NeedMore, Taken, taken, ToCome, with_front, bytes_to_come, Answer, Gives, Fails, unless_undecided, answer}
+use Rattle.spec_parts.specs.Flows.{next_step, behind_next}
+use Rattle.spec_parts.specs.Readers.{Reader, feed, finish, item, after_item, still_to_come, Reading, Answers, ReadsOn, GivesWay, Raises, MeetsClosed, Read, answered_or, read_once, read_open, read_move}
 use Rattle.buf_flow.specs.Cuts.{with_behind}
 use Rattle.buf_flow.specs.Moves.{unless_goes_on, last_move, IsOpen, EndsAs, CallsEndByBytesToCome}
 use Rattle.buf_flow.proofs.Cutting.{given_of_all}

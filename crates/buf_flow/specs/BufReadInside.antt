@@ -1,6 +1,6 @@
 -- A reader in code as a reader of the definitions.
 use Rattle.std.specs.Prelude.{false}
-use Rattle.row_model.specs.Readers.{Reader}
+use Rattle.spec_parts.specs.Readers.{Reader}
 use Rattle.buf_flow.specs.declared.read.BufRead.TheInside.{Inside}
 
 abbrev pub reader_of : Inside → Reader

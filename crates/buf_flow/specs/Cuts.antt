@@ -1,8 +1,8 @@
 -- How the bytes of a flow are cut into pieces has no part in what its reader gives.
 use Rattle.std.specs.Prelude.{◌≡◌, ◌≢◌, ℕ, Bool, true, false, List, [], ◌∷◌, ◌++◌}
 use Rattle.std.specs.List.{concat}
-use Rattle.row_model.specs.BytesToCome.{ReaderCall, Item, Bytes, Flag, EndOfFile, BufferLimit, NeedMore, Taken, taken}
-use Rattle.row_model.specs.Readers.{Reader, new_reader, feed, finish, item, after_item}
+use Rattle.spec_parts.specs.BytesToCome.{ReaderCall, Item, Bytes, Flag, EndOfFile, BufferLimit, NeedMore, Taken, taken}
+use Rattle.spec_parts.specs.Readers.{Reader, new_reader, feed, finish, item, after_item}
 
 -- the same is given, and these bytes are left behind what is left
 abbrev pub with_behind : List ℕ → Taken → Taken

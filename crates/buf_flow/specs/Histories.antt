@@ -1,7 +1,7 @@
 -- Whatever happens to a reader, and in whatever order: what it gives is decided by the bytes that came, joined, and by the calls that were decided.
 use Rattle.std.specs.Prelude.{◌≡◌, ℕ, Bool, true, false, List, [], ◌∷◌, ◌++◌}
-use Rattle.row_model.specs.BytesToCome.{ReaderCall, Item, NeedMore}
-use Rattle.row_model.specs.Readers.{Reader, new_reader, feed, finish, item, after_item}
+use Rattle.spec_parts.specs.BytesToCome.{ReaderCall, Item, NeedMore}
+use Rattle.spec_parts.specs.Readers.{Reader, new_reader, feed, finish, item, after_item}
 use Rattle.buf_flow.specs.Cuts.{given_at_once}
 
 -- a piece comes, the end is read, or a call is made

@@ -1,8 +1,8 @@
 -- Answers in code as those of the definitions.
 use Rattle.std.specs.Prelude.{◌≡◌, List, ℕ}
-use Rattle.row_model.specs.BytesToCome as model
-use Rattle.row_model.specs.BytesToCome.{ReaderCall}
-use Rattle.row_model.specs.Readers.{Reader, item, after_item}
+use Rattle.spec_parts.specs.BytesToCome as model
+use Rattle.spec_parts.specs.BytesToCome.{ReaderCall}
+use Rattle.spec_parts.specs.Readers.{Reader, item, after_item}
 use Rattle.buf_flow.specs.declared.read.Item.{Item}
 use Rattle.buf_flow.specs.declared.read.Item.TheVariants.{Bytes, Flag, NeedMore, EndOfFile, BufferLimit, NoMemory}
 

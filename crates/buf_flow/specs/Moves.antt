@@ -3,8 +3,8 @@
 use Rattle.std.specs.Prelude.{◌≡◌, ℕ, zero, suc, ◌≤◌, true, false, List, [], length, Option}
 use Rattle.eio_value.specs.declared.flow_step.FlowStep.{FlowStep}
 use Rattle.eio_value.specs.declared.value.TextId.{TextId}
-use Rattle.row_model.specs.BytesToCome.{ReaderCall, Answer, Gives, Fails, answer}
-use Rattle.row_model.specs.Readers.{Reader, still_to_come, Reading, Answers, ReadsOn, GivesWay, Raises, MeetsClosed, Read, read_move}
+use Rattle.spec_parts.specs.BytesToCome.{ReaderCall, Answer, Gives, Fails, answer}
+use Rattle.spec_parts.specs.Readers.{Reader, still_to_come, Reading, Answers, ReadsOn, GivesWay, Raises, MeetsClosed, Read, read_move}
 
 -- this move, unless the call goes on behind it
 abbrev pub unless_goes_on : Reading → (again now : Read) → Read

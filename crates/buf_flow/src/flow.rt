@@ -34,7 +34,7 @@ impl Model for MockFlow {
 }
 
 impl MockFlow {
-    ghost use Rattle.row_model.specs.Flows.{next_step, behind_next};
+    ghost use Rattle.spec_parts.specs.Flows.{next_step, behind_next};
     ghost use Rattle.buf_flow.specs.FlowReads.{read_of};
 
     /// A flow with these steps to come.

@@ -4,7 +4,7 @@
 //! given yet, and answers by these bytes alone, however they were cut into pieces. A [`BufWrite`] holds what
 //! was put and isn't written yet.
 //!
-//! The definitions that the clauses cite are those of flows, readers and writers in `row_model`; how answers in
+//! The definitions that the clauses cite are those of flows, readers and writers in `spec_parts`; how answers in
 //! code stand for theirs is said in specs/ (`FlowReads`, `Items`). The laws are stated there too: `Cuts` (pieces of
 //! the same bytes), `Histories` (pieces and calls in any order), `Moves` (calls over a flow).
 #![tactic(auto)]

@@ -1,6 +1,6 @@
 //! What of a line is given.
 ghost use Rattle.std.specs.Prelude.{◌≡◌, ◌≤◌, length, take};
-ghost use Rattle.row_model.specs.BytesToCome.{without_cr};
+ghost use Rattle.spec_parts.specs.BytesToCome.{without_cr};
 
 /// How many bytes of a line are given: all but the one CR that may stand at its end.
 pub(crate) fn line_len(line: &[u8]) -> usize

@@ -4,8 +4,8 @@
 //! what is given leaves the front without moving the rest each time: that is kept by `SearchedBytes` and `ByteQueue`. That the
 //! answers don't depend on how the bytes were cut is the law [`crate::cuts_alike`].
 ghost use Rattle.std.specs.Prelude.{◌≡◌, ◌<◌, ◌≤◌, None, length, take, drop, pos, OnOk, OnErr, MatchBool};
-ghost use Rattle.row_model.specs.BytesToCome.{Line, TakeBytes, TakeAll, Char, AtEnd, line_end};
-ghost use Rattle.row_model.specs.Readers.{new_reader, feed, finish};
+ghost use Rattle.spec_parts.specs.BytesToCome.{Line, TakeBytes, TakeAll, Char, AtEnd, line_end};
+ghost use Rattle.spec_parts.specs.Readers.{new_reader, feed, finish};
 
 use crate::line::line_len;
 use crate::searched::SearchedBytes;
@@ -41,7 +41,7 @@ pub struct BufRead {
 }
 
 impl Model for BufRead {
-    ghost use Rattle.row_model.specs.Readers.{Reader};
+    ghost use Rattle.spec_parts.specs.Readers.{Reader};
 
     ghost Value = { Reader };
 

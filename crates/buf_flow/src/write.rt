@@ -1,6 +1,6 @@
 //! What was put and isn't written yet. Clauses see it as these bytes.
 ghost use Rattle.std.specs.Prelude.{◌≡◌, ◌<◌, ◌≤◌, [], ◌++◌, length, OnOk, OnErr};
-ghost use Rattle.row_model.specs.Writers.{took};
+ghost use Rattle.spec_parts.specs.Writers.{took};
 
 use crate::queue::ByteQueue;
 use eio_value::NoMemory;

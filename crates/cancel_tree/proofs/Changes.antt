@@ -7,7 +7,7 @@ use Rattle.std.specs.Option.{option_map, option_and_then}
 use Rattle.std.proofs.lemmas.Bool.Decides.{eqb_tells}
 use Rattle.eio_value.specs.declared.plain.Plain.{Plain}
 use Rattle.slab.specs.Slab.{Slab, get, slab_len, with_value, Updates}
-use Rattle.row_model.specs.Contexts.{Context, never_made, context_at, is_live, live_count, is_full, Made, make, off, takes_effect, cancel}
+use Rattle.spec_parts.specs.Contexts.{Context, never_made, context_at, is_live, live_count, is_full, Made, make, off, takes_effect, cancel}
 use Rattle.cancel_tree.specs.declared.kept.Jump.{Jump}
 use Rattle.cancel_tree.specs.declared.kept.Kept.{Kept}
 use Rattle.cancel_tree.specs.declared.kept.Place.{Place}

@@ -7,9 +7,9 @@ use Rattle.std.proofs.lemmas.Bool.Decides.{eqb_tells}
 use Rattle.std.proofs.lemmas.Option.{none-some}
 use Rattle.std.proofs.lemmas.List.Sums.{sum_by-cons}
 use Rattle.eio_value.specs.declared.plain.Plain.{Plain}
-use Rattle.row_model.specs.Contexts.{Context, Waiting, never_made, context_at, is_live, live_count, is_full, new_context, make, above, way_within, off, first_reason, goes_up_to, takes_effect, cancel, reached}
-use Rattle.row_model.specs.ContextCalls.{Contexts, no_contexts, ContextCall, Root, Sub, Protect, Cancel, Wait, Unwait, End, called, after, put_in, taken_out, members}
-use Rattle.model_laws.proofs.Places.{others_unchanged, changed_itself, older_unchanged, made_last, past_all, left_by_change}
+use Rattle.spec_parts.specs.Contexts.{Context, Waiting, never_made, context_at, is_live, live_count, is_full, new_context, make, above, way_within, off, first_reason, goes_up_to, takes_effect, cancel, reached}
+use Rattle.spec_parts.specs.ContextCalls.{Contexts, no_contexts, ContextCall, Root, Sub, Protect, Cancel, Wait, Unwait, End, called, after, put_in, taken_out, members}
+use Rattle.law_parts.proofs.Places.{others_unchanged, changed_itself, older_unchanged, made_last, past_all, left_by_change}
 use Rattle.cancel_tree.specs.Endings.{HasNoLiveChild}
 use Rattle.cancel_tree.specs.Waits.{waits_in}
 use Rattle.cancel_tree.specs.Forgetting.{left, left_after, MayCall, MayCallAll, AnswersAlike, ForgetsNothingLive}

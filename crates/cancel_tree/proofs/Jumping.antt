@@ -7,10 +7,10 @@ use Rattle.std.proofs.lemmas.Bool.Decides.{eqb_tells}
 use Rattle.std.proofs.lemmas.Option.{none-some}
 use Rattle.eio_value.specs.declared.plain.Plain.{Plain}
 use Rattle.slab.specs.Slab.{Slab, get, slab_len, with_value, Updates}
-use Rattle.row_model.specs.Contexts.{Context, never_made, context_at, above, way_within, goes_up_to}
-use Rattle.model_laws.proofs.Places.{others_unchanged, older_unchanged, made_last}
-use Rattle.model_laws.proofs.Staying.{same_above}
-use Rattle.model_laws.proofs.Walks.{above_is_parent, goes_up_walks}
+use Rattle.spec_parts.specs.Contexts.{Context, never_made, context_at, above, way_within, goes_up_to}
+use Rattle.law_parts.proofs.Places.{others_unchanged, older_unchanged, made_last}
+use Rattle.law_parts.proofs.Staying.{same_above}
+use Rattle.law_parts.proofs.Walks.{above_is_parent, goes_up_walks}
 use Rattle.cancel_tree.specs.declared.kept.Jump.{Jump}
 use Rattle.cancel_tree.specs.declared.kept.Kept.{Kept}
 use Rattle.cancel_tree.specs.declared.kept.Place.{Place}

@@ -1,8 +1,8 @@
 -- Contexts listed by number: what stands under a number, and what a change or one more makes of the list.
 use Rattle.std.proofs.Common.{◌≡◌, ℕ, zero, suc, ◌+◌, ◌<◌, ◌≤◌, ◌≢◌, ◌⊎◌, inl, inr, Bool, true, false, not, List, [], ◌∷◌, ◌++◌, length, slice_set, arith, refl, ap, ap₂, ◌∙◌, sym, length-append, true≢false, cond, zero-add, add_assoc, add_comm}
 use Rattle.std.proofs.lemmas.List.Sums.{sum_by-cons, sum_by_push}
-use Rattle.row_model.specs.Contexts.{Context, never_made, context_at, live_count}
-use Rattle.model_laws.proofs.Places.{older_unchanged, made_last, past_all}
+use Rattle.spec_parts.specs.Contexts.{Context, never_made, context_at, live_count}
+use Rattle.law_parts.proofs.Places.{older_unchanged, made_last, past_all}
 use Rattle.cancel_tree.specs.Kept.{listed}
 
 pub length-listed : (n : ℕ) (at : ℕ → Context) → length (listed n at) ≡ n

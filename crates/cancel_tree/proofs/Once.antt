@@ -2,8 +2,8 @@
 use Rattle.std.proofs.Common.{◌≡◌, ℕ, suc, Bool, true, false, List, [], slice_set, Option, Some, None, refl, ap, ◌∙◌, add-one}
 use Rattle.std.specs.Prelude.{is_none, ◌&&◌}
 use Rattle.eio_value.specs.declared.plain.Plain.{Plain}
-use Rattle.row_model.specs.Contexts.{Context, context_at, above, way_within, first_reason, off, is_live, takes_effect, cancel}
-use Rattle.model_laws.proofs.Places.{changed_itself}
+use Rattle.spec_parts.specs.Contexts.{Context, context_at, above, way_within, first_reason, off, is_live, takes_effect, cancel}
+use Rattle.law_parts.proofs.Places.{changed_itself}
 use Rattle.cancel_tree.specs.Cancelling.{CancelsOnce}
 use Rattle.cancel_tree.proofs.Changes.{cancel_none, cancel_some}
 use Rattle.cancel_tree.proofs.Forgotten.{live_below, effect_lives}

@@ -2,8 +2,8 @@
 use Rattle.std.proofs.Common.{◌≡◌, ℕ, zero, suc, ◌+◌, true, false, ◌==◌, List, [], ◌∷◌, slice_set, Option, Some, None, refl, ap, ◌∙◌, sym}
 use Rattle.std.specs.List.{list_any}
 use Rattle.eio_value.specs.declared.plain.Plain.{Plain}
-use Rattle.row_model.specs.Contexts.{Context, Waiting, context_at, above, way_within, goes_up_to, takes_effect, cancel, reached, to_be_struck}
-use Rattle.model_laws.proofs.Staying.{same_above}
+use Rattle.spec_parts.specs.Contexts.{Context, Waiting, context_at, above, way_within, goes_up_to, takes_effect, cancel, reached, to_be_struck}
+use Rattle.law_parts.proofs.Staying.{same_above}
 use Rattle.cancel_tree.proofs.Changes.{cancel_some}
 use Rattle.cancel_tree.proofs.Waiting.{reached-cons}
 

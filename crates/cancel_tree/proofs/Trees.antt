@@ -8,9 +8,9 @@ use Rattle.std.proofs.lemmas.Bool.Decides.{eqb_tells}
 use Rattle.std.proofs.lemmas.Option.{none-some}
 use Rattle.eio_value.specs.declared.plain.Plain.{Plain}
 use Rattle.slab.specs.Slab.{Slab, get}
-use Rattle.row_model.specs.Contexts.{Context, never_made, context_at, is_live, above, off, way_within, goes_up_to}
-use Rattle.model_laws.specs.Contexts.{or_else, off_above}
-use Rattle.model_laws.proofs.Walks.{ParentsAreOlder, above_is_parent, off_walks, goes_up_walks}
+use Rattle.spec_parts.specs.Contexts.{Context, never_made, context_at, is_live, above, off, way_within, goes_up_to}
+use Rattle.law_parts.specs.Contexts.{or_else, off_above}
+use Rattle.law_parts.proofs.Walks.{ParentsAreOlder, above_is_parent, off_walks, goes_up_walks}
 use Rattle.cancel_tree.specs.declared.kept.Jump.{Jump}
 use Rattle.cancel_tree.specs.declared.kept.Kept.{Kept}
 use Rattle.cancel_tree.specs.declared.kept.Place.{Place}

@@ -3,8 +3,8 @@ use Rattle.std.proofs.Common.{◌≡◌, ℕ, zero, suc, ◌<◌, ◌≤◌, ◌
 use Rattle.std.specs.List.{AllWithin}
 use Rattle.std.specs.List.Sorted.{IsPartitionedBy}
 use Rattle.std.proofs.lemmas.Bool.Decides.{eqb_tells}
-use Rattle.row_model.specs.Contexts.{Context, Waiting, goes_up_to, reached}
-use Rattle.row_model.specs.ContextCalls.{put_in, taken_out}
+use Rattle.spec_parts.specs.Contexts.{Context, Waiting, goes_up_to, reached}
+use Rattle.spec_parts.specs.ContextCalls.{put_in, taken_out}
 use Rattle.cancel_tree.specs.declared.waiters.Entered.{Entered}
 use Rattle.cancel_tree.specs.Entered.{waiting_of, AreAbove, Rise}
 use Rattle.cancel_tree.specs.Waits.{waits}

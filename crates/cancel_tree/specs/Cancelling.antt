@@ -1,7 +1,7 @@
 -- A context is cancelled once.
 use Rattle.std.specs.Prelude.{◌≡◌, ℕ, false, List}
 use Rattle.eio_value.specs.declared.plain.Plain.{Plain}
-use Rattle.row_model.specs.Contexts.{Context, takes_effect, cancel}
+use Rattle.spec_parts.specs.Contexts.{Context, takes_effect, cancel}
 
 -- once a context was cancelled, whether that took effect or not, no further cancellation of it does
 abbrev pub CancelsOnce : Type 0

@@ -1,6 +1,6 @@
 -- What the end of a context leaves.
 use Rattle.std.specs.Prelude.{ℕ}
-use Rattle.row_model.specs.ContextCalls.{Contexts}
+use Rattle.spec_parts.specs.ContextCalls.{Contexts}
 use Rattle.cancel_tree.specs.Endings.{without}
 
 -- the context has ended, and all else of it is forgotten

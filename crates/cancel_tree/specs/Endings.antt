@@ -1,6 +1,6 @@
 -- The end of a context, after which nothing of it is known but that it was made.
 use Rattle.std.specs.Prelude.{◌≡◌, ◌≢◌, ℕ, true, List, slice_set, Some}
-use Rattle.row_model.specs.Contexts.{Context, never_made, context_at, is_live}
+use Rattle.spec_parts.specs.Contexts.{Context, never_made, context_at, is_live}
 
 -- no live context has it as its parent
 abbrev pub HasNoLiveChild : List Context → ℕ → Type 0

@@ -1,6 +1,6 @@
 -- The waiting fibers as the code keeps them, in order of their numbers.
 use Rattle.std.specs.Prelude.{ℕ, ◌<◌, ◌≤◌, List, [], ◌∷◌, length}
-use Rattle.row_model.specs.Contexts.{Waiting}
+use Rattle.spec_parts.specs.Contexts.{Waiting}
 use Rattle.cancel_tree.specs.declared.waiters.Entered.{Entered}
 
 -- the definition's waiting fiber

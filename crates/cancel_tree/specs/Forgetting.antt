@@ -1,8 +1,8 @@
 -- What is forgotten of ended contexts makes no difference. The definitions keep all of an ended context; the code forgets it. After any
 -- calls that meet their conditions the two say the same of every live context.
 use Rattle.std.specs.Prelude.{◌≡◌, ℕ, true, false, List, [], ◌∷◌, length}
-use Rattle.row_model.specs.Contexts.{context_at, is_live, off, goes_up_to, is_full, takes_effect, to_be_struck}
-use Rattle.row_model.specs.ContextCalls.{Contexts, no_contexts, ContextCall, Root, Sub, Protect, Cancel, Wait, Unwait, End, called, after, members}
+use Rattle.spec_parts.specs.Contexts.{context_at, is_live, off, goes_up_to, is_full, takes_effect, to_be_struck}
+use Rattle.spec_parts.specs.ContextCalls.{Contexts, no_contexts, ContextCall, Root, Sub, Protect, Cancel, Wait, Unwait, End, called, after, members}
 use Rattle.cancel_tree.specs.Ended.{left_by_end}
 use Rattle.cancel_tree.specs.Endings.{HasNoLiveChild}
 use Rattle.cancel_tree.specs.Waits.{waits_in}

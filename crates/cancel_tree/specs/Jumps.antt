@@ -1,7 +1,7 @@
 -- The way up, by steps and by jumps.
 use Rattle.std.specs.Prelude.{◌≡◌, ℕ, ◌<◌, ◌≤◌, ◌⊎◌, Bool, true, false, nat_le, List, Option, Some, None}
 use Rattle.slab.specs.Slab.{Slab, get}
-use Rattle.row_model.specs.Contexts.{Context, goes_up_to}
+use Rattle.spec_parts.specs.Contexts.{Context, goes_up_to}
 use Rattle.cancel_tree.specs.declared.kept.Jump.{Jump}
 use Rattle.cancel_tree.specs.declared.kept.Kept.{Kept}
 use Rattle.cancel_tree.specs.declared.kept.Place.{Place}

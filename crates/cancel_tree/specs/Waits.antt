@@ -1,7 +1,7 @@
 -- Which fibers wait, and where.
 use Rattle.std.specs.Prelude.{ℕ, Bool, ◌==◌, List}
 use Rattle.std.specs.List.{list_any}
-use Rattle.row_model.specs.Contexts.{Waiting}
+use Rattle.spec_parts.specs.Contexts.{Waiting}
 
 -- the fiber waits
 abbrev pub waits : ℕ → List Waiting → Bool

@@ -1,13 +1,13 @@
 //! The contexts of a domain and the fibers that wait in them, as callers see them.
 //!
-//! Seen as `row_model`'s `Contexts`: all contexts that were made, by number, and the waiting fibers in order of number. Of a
+//! Seen as `spec_parts`'s `Contexts`: all contexts that were made, by number, and the waiting fibers in order of number. Of a
 //! context that has ended nothing is kept, so it is seen as what stands under a number that no context has; `forgets_nothing_live`
 //! says that no call of the definitions tells the difference. The theorems are the clauses of the methods of [`Contexts`].
 
 ghost use Rattle.std.specs.Prelude.{◌≡◌, ◌<◌, ◌≤◌, ◌+◌, ◌-◌, ◌^◌, ◌++◌, length, true, false, IfOk, vec_len, vec_capacity};
 ghost use Rattle.std.specs.Result.{result_ok};
-ghost use Rattle.row_model.specs.Contexts as contexts;
-ghost use Rattle.row_model.specs.ContextCalls as calls;
+ghost use Rattle.spec_parts.specs.Contexts as contexts;
+ghost use Rattle.spec_parts.specs.ContextCalls as calls;
 ghost use Rattle.cancel_tree.specs.Ended.{left_by_end};
 ghost use Rattle.cancel_tree.specs.Endings.{HasNoLiveChild};
 ghost use Rattle.cancel_tree.specs.Waits.{waits, waits_in};
@@ -28,7 +28,7 @@ pub struct Contexts {
 }
 
 impl Model for Contexts {
-    ghost use Rattle.row_model.specs.ContextCalls as calls;
+    ghost use Rattle.spec_parts.specs.ContextCalls as calls;
 
     ghost Value = { calls.Contexts };
 

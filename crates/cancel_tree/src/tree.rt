@@ -4,12 +4,12 @@
 //! where a context ends, the places on the shorter side of its own move by one. Each step of a walk upwards takes constant time,
 //! since a context knows where its parent is kept. The walk to a given context also takes the jumps that each context knows, which
 //! are chosen so that few lie on any way. The invariant is `IsSound`.
-//! The theorems are the clauses of the methods of [`Tree`], by `row_model`'s `Contexts`.
+//! The theorems are the clauses of the methods of [`Tree`], by `spec_parts`'s `Contexts`.
 
 ghost use Rattle.std.specs.Prelude.{◌≡◌, ◌<◌, ◌-◌, ◌^◌, [], length, true, IfOk};
 ghost use Rattle.std.specs.Option.{ForSome};
 ghost use Rattle.std.specs.Result.{result_ok};
-ghost use Rattle.row_model.specs.Contexts as contexts;
+ghost use Rattle.spec_parts.specs.Contexts as contexts;
 ghost use Rattle.cancel_tree.specs.Endings.{HasNoLiveChild, without};
 
 use crate::kept::{Kept, Place, jump_of, place_of};
@@ -36,7 +36,7 @@ pub(crate) struct Tree {
 impl Model for Tree {
     ghost use Rattle.std.specs.Prelude.{List};
     ghost use Rattle.std.specs.VecDeque.{deque_capacity};
-    ghost use Rattle.row_model.specs.Contexts.{Context};
+    ghost use Rattle.spec_parts.specs.Contexts.{Context};
 
     ghost Value = { List Context };
 

@@ -2,10 +2,10 @@
 //!
 //! A fiber's place is found by halving, and those on its shorter side move by one. There is room for as many as may wait, so that
 //! only `new` takes memory. The invariant is `AreInOrder`. The theorems are the clauses of the methods of [`Waiters`], by
-//! `row_model`'s `ContextCalls`.
+//! `spec_parts`'s `ContextCalls`.
 
 ghost use Rattle.std.specs.Prelude.{◌≡◌, ◌<◌, ◌≤◌, [], length, map, true, false, IfOk};
-ghost use Rattle.row_model.specs.ContextCalls.{put_in, taken_out};
+ghost use Rattle.spec_parts.specs.ContextCalls.{put_in, taken_out};
 ghost use Rattle.cancel_tree.specs.Waits.{waits};
 
 use eio_value::NoMemory;
@@ -32,7 +32,7 @@ pub(crate) struct Waiters {
 impl Model for Waiters {
     ghost use Rattle.std.specs.Prelude.{List, map};
     ghost use Rattle.std.specs.VecDeque.{deque_capacity};
-    ghost use Rattle.row_model.specs.Contexts.{Waiting};
+    ghost use Rattle.spec_parts.specs.Contexts.{Waiting};
 
     ghost Value = { List Waiting };
 
@@ -45,7 +45,7 @@ impl Model for Waiters {
 
 impl Waiters {
     ghost use Rattle.std.specs.Prelude.{◌≡◌, ◌<◌, ◌≤◌, [], length, map, true, false, IfOk};
-    ghost use Rattle.row_model.specs.ContextCalls.{put_in, taken_out};
+    ghost use Rattle.spec_parts.specs.ContextCalls.{put_in, taken_out};
     ghost use Rattle.cancel_tree.specs.Waits.{waits};
     ghost use Rattle.cancel_tree.specs.Entered.{waiting_of};
 

@@ -5,18 +5,18 @@ use Rattle.std.specs.Option.{option_map}
 use Rattle.std.proofs.lemmas.Option.{none-some, same_Some}
 use Rattle.eio_value.specs.declared.plain.Plain.{Plain}
 use Rattle.eio_value.specs.declared.raised.Raised.{Raised}
-use Rattle.row_model.specs.ContextCalls.{Contexts, Wait, called}
-use Rattle.row_model.specs.Contexts.{is_live}
+use Rattle.spec_parts.specs.ContextCalls.{Contexts, Wait, called}
+use Rattle.spec_parts.specs.Contexts.{is_live}
 use Rattle.script_forms.specs.declared.node.Node.{Node}
-use Rattle.step_model.specs.Asks.{Ask}
-use Rattle.trace_out.specs.declared.line.Did.{Did}
-use Rattle.machine_model.specs.Domain as model
-use Rattle.machine_model.specs.Domain.{DomainState, fiber_at, off_for, stands, to_back}
-use Rattle.machine_model.specs.Steps.{Step, goes_off, waits, waits_unless_off}
-use Rattle.machine_model.specs.SwitchMoves.{woken}
-use Rattle.waiting_laws.specs.InStep.{AreContexts}
-use Rattle.waiting_laws.specs.WhoWaits.{contexts_of}
-use Rattle.waiting_laws.proofs.Alike.{domains_in_step}
+use Rattle.spec_fiber.specs.Asks.{Ask}
+use Rattle.trace_lines.specs.declared.line.Did.{Did}
+use Rattle.spec_machine.specs.Domain as model
+use Rattle.spec_machine.specs.Domain.{DomainState, fiber_at, off_for, stands, to_back}
+use Rattle.spec_machine.specs.Steps.{Step, goes_off, waits, waits_unless_off}
+use Rattle.spec_machine.specs.SwitchMoves.{woken}
+use Rattle.domain_strikes.specs.Waiting.InStep.{AreContexts}
+use Rattle.domain_strikes.specs.Waiting.WhoWaits.{contexts_of}
+use Rattle.domain_strikes.proofs.Waiting.Alike.{domains_in_step}
 use Rattle.domain_core.specs.declared.standing.Again.{Again}
 use Rattle.domain_core.specs.declared.standing.Standing.{Standing}
 use Rattle.domain_core.specs.declared.standing.Standing.TheVariants as kept_standing

@@ -2,9 +2,9 @@
 use Rattle.std.proofs.Common.{◌≡◌, ◌≢◌, inl, inr, ℕ, false, List, [], ◌∷◌, ◌++◌, Option, Some, None, refl, ap, ◌∙◌, sym, subst}
 use Rattle.std.specs.Prelude.{IsSome}
 use Rattle.std.specs.Option.{option_map}
-use Rattle.machine_model.specs.Domain as model
-use Rattle.machine_model.specs.Domain.{to_head, to_back, moved_to, stands}
-use Rattle.step_model.specs.Asks.{Ask}
+use Rattle.spec_machine.specs.Domain as model
+use Rattle.spec_machine.specs.Domain.{to_head, to_back, moved_to, stands}
+use Rattle.spec_fiber.specs.Asks.{Ask}
 use Rattle.domain_core.specs.Answering.{Becomes}
 use Rattle.domain_core.specs.Conditions.{IsAwake, waits_so}
 use Rattle.domain_core.specs.Keeping.{KeptFiber, KeptDomain, kept_at, changed_at}

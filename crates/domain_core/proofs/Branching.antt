@@ -3,8 +3,8 @@ use Rattle.std.proofs.Common.{◌≡◌, ℕ, zero, suc, ◌+◌, ◌-◌, ◌<�
 use Rattle.std.specs.Bool.{IsTrue}
 use Rattle.std.proofs.lemmas.Bool.{leb-true}
 use Rattle.std.proofs.lemmas.List.{length-append}
-use Rattle.row_model.specs.ReadyList.{is_full}
-use Rattle.machine_model.specs.GroupMoves.{numbers_from}
+use Rattle.spec_parts.specs.ReadyList.{is_full}
+use Rattle.spec_machine.specs.GroupMoves.{numbers_from}
 
 pub before_first : (first n : ℕ) (count : ℕ) (rest : List ℕ) → first < n → (n - 1) ∷ (numbers_from n count ++ rest) ≡ numbers_from (n - 1) (suc count) ++ rest
 before_first first n count rest below = (let same : n ≡ n - 1 + 1 = omega arith in ap (λ m. (n - 1) ∷ (numbers_from m count ++ rest)) same)

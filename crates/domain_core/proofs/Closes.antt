@@ -7,20 +7,20 @@ use Rattle.eio_value.specs.declared.raised.Raised.{Raised}
 use Rattle.eio_value.specs.declared.value.Value.{Value}
 use Rattle.script_forms.specs.Flat.{nodes_of}
 use Rattle.script_forms.specs.declared.node.Node.{Node}
-use Rattle.script_model.specs.Scripts.{Script}
-use Rattle.step_model.specs.Asks as ask
-use Rattle.row_model.specs.Contexts.{is_full}
-use Rattle.row_model.specs.Switches as model
-use Rattle.row_model.specs.Switches.{Switch, Handler, CloseStep, Closed, switch_at, with_switch, due_batch, runs_handler, close_step, release, last_handler}
-use Rattle.strike_queue.specs.Owing.{StrikesAtOnce}
-use Rattle.domain_kinds.specs.KindedStates.{handlers_of}
-use Rattle.domain_laws.specs.SoundStates.{attached_to}
-use Rattle.waiting_laws.specs.WhoWaits.{contexts_of}
-use Rattle.waiting_laws.proofs.Alike.{contexts_in_step}
-use Rattle.machine_model.specs.Domain.{DomainState}
-use Rattle.machine_model.specs.Moves.{own_call}
-use Rattle.machine_model.specs.Steps.{Step, halts}
-use Rattle.machine_model.specs.SwitchMoves.{closed_by, closes, fails_with, with_switch_at}
+use Rattle.spec_script.specs.Scripts.{Script}
+use Rattle.spec_fiber.specs.Asks as ask
+use Rattle.spec_parts.specs.Contexts.{is_full}
+use Rattle.spec_parts.specs.Switches as model
+use Rattle.spec_parts.specs.Switches.{Switch, Handler, CloseStep, Closed, switch_at, with_switch, due_batch, runs_handler, close_step, release, last_handler}
+use Rattle.domain_strikes.specs.Owing.{StrikesAtOnce}
+use Rattle.law_domain.specs.Kinded.KindedStates.{handlers_of}
+use Rattle.law_domain.specs.Sound.SoundStates.{attached_to}
+use Rattle.domain_strikes.specs.Waiting.WhoWaits.{contexts_of}
+use Rattle.domain_strikes.proofs.Waiting.Alike.{contexts_in_step}
+use Rattle.spec_machine.specs.Domain.{DomainState}
+use Rattle.spec_machine.specs.Moves.{own_call}
+use Rattle.spec_machine.specs.Steps.{Step, halts}
+use Rattle.spec_machine.specs.SwitchMoves.{closed_by, closes, fails_with, with_switch_at}
 use Rattle.domain_core.specs.declared.told.Told.{Told}
 use Rattle.domain_core.specs.Answering.{MakesUnder, closes_on}
 use Rattle.domain_core.specs.Conditions.{HandlersBegin, LeavesScopes, MayClose, MayEndContext}

@@ -8,21 +8,21 @@ use Rattle.eio_value.specs.declared.raised.Outcome.{Outcome}
 use Rattle.eio_value.specs.declared.raised.Outcome.TheVariants as outcome
 use Rattle.eio_value.specs.declared.raised.Raised.TheVariants.{Cancelled}
 use Rattle.eio_value.specs.declared.value.Value.TheVariants as value
-use Rattle.row_model.specs.Contexts.{is_live, off}
+use Rattle.spec_parts.specs.Contexts.{is_live, off}
 use Rattle.script_forms.specs.declared.node.Node.{Node}
-use Rattle.script_model.specs.Scripts.{Script}
-use Rattle.step_model.specs.Replies.{passed}
-use Rattle.step_model.specs.Settling.{thrown}
-use Rattle.step_model.specs.Work.{Carry}
-use Rattle.text_laws.specs.Domains.{IsTextedStanding, IsKnownReason}
-use Rattle.text_laws.specs.Texts.{known_in}
-use Rattle.text_laws.proofs.Lists.{or_default}
-use Rattle.text_laws.proofs.Passing.{exit_known}
-use Rattle.text_laws.proofs.Steps.{off_texted}
-use Rattle.waiting_laws.specs.WhoWaits.{contexts_of}
-use Rattle.waiting_laws.proofs.Alike.{contexts_in_step}
-use Rattle.machine_model.specs.Domain.{Next, GoesOn, LooksUp, FindsOff, Ready, Fiber, DomainState, fiber_at, off_for}
-use Rattle.machine_model.specs.Preparing.{found_off, next_call, next_of}
+use Rattle.spec_script.specs.Scripts.{Script}
+use Rattle.spec_fiber.specs.Replies.{passed}
+use Rattle.spec_fiber.specs.Settling.{thrown}
+use Rattle.spec_fiber.specs.Work.{Carry}
+use Rattle.law_domain.specs.Texts.Domains.{IsTextedStanding, IsKnownReason}
+use Rattle.law_fiber.specs.Texts.Texts.{known_in}
+use Rattle.law_fiber.proofs.Texts.Lists.{or_default}
+use Rattle.law_fiber.proofs.Texts.Passing.{exit_known}
+use Rattle.law_domain.proofs.Texts.Steps.{off_texted}
+use Rattle.domain_strikes.specs.Waiting.WhoWaits.{contexts_of}
+use Rattle.domain_strikes.proofs.Waiting.Alike.{contexts_in_step}
+use Rattle.spec_machine.specs.Domain.{Next, GoesOn, LooksUp, FindsOff, Ready, Fiber, DomainState, fiber_at, off_for}
+use Rattle.spec_machine.specs.Preparing.{found_off, next_call, next_of}
 use Rattle.domain_core.specs.Answering.{Raises}
 use Rattle.domain_core.specs.Keeping.{KeptFiber, KeptDomain, kept_at}
 use Rattle.domain_core.specs.Mirrors.{Mirrors}

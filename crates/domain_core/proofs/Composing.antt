@@ -4,14 +4,14 @@ use Rattle.eio_value.specs.declared.plain.Member.{Member}
 use Rattle.eio_value.specs.declared.plain.Plain.{Plain}
 use Rattle.eio_value.specs.declared.value.Value.{Value}
 use Rattle.eio_value.specs.declared.value.Value.TheVariants as value
-use Rattle.row_model.specs.Contexts.{Made}
+use Rattle.spec_parts.specs.Contexts.{Made}
 use Rattle.script_forms.specs.declared.node.Node.{Node}
-use Rattle.step_model.specs.Asks.{Ask}
-use Rattle.trace_out.specs.declared.line.Did.{Did}
-use Rattle.trace_out.specs.declared.line.Said2.{Said2}
-use Rattle.machine_model.specs.ContextMoves.{before_block, enters_context}
-use Rattle.machine_model.specs.Domain.{DomainState, off_for}
-use Rattle.machine_model.specs.Steps.{Step, halts, in_new, new_raise, raises_cancelled, told, unless_off}
+use Rattle.spec_fiber.specs.Asks.{Ask}
+use Rattle.trace_lines.specs.declared.line.Did.{Did}
+use Rattle.trace_lines.specs.declared.line.Said2.{Said2}
+use Rattle.spec_machine.specs.ContextMoves.{before_block, enters_context}
+use Rattle.spec_machine.specs.Domain.{DomainState, off_for}
+use Rattle.spec_machine.specs.Steps.{Step, halts, in_new, new_raise, raises_cancelled, told, unless_off}
 use Rattle.domain_core.specs.declared.told.Told.{Told}
 use Rattle.domain_core.specs.Answering.{BecomesUnder, HoldsOf, MakesUnder, Raises, Tells, enters_block}
 use Rattle.domain_core.specs.Keeping.{KeptDomain}

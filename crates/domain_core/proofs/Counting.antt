@@ -3,8 +3,8 @@ use Rattle.std.proofs.Common.{◌≡◌, ℕ, suc, ◌+◌, Bool, not, cond, Lis
 use Rattle.std.specs.Prelude.{count_by, is_some}
 use Rattle.std.proofs.lemmas.List.Sums.{sum_by-cons}
 use Rattle.script_forms.specs.declared.node.Node.{Node}
-use Rattle.machine_model.specs.Domain as model
-use Rattle.machine_model.specs.Domain.{DomainState, fiber_at, has_ended, live_fibers}
+use Rattle.spec_machine.specs.Domain as model
+use Rattle.spec_machine.specs.Domain.{DomainState, fiber_at, has_ended, live_fibers}
 use Rattle.domain_core.specs.Keeping.{KeptFiber, KeptDomain, kept_at}
 use Rattle.domain_core.specs.Mirrors.{IsKept, Mirrors}
 

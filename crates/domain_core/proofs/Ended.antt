@@ -2,14 +2,14 @@
 use Rattle.std.proofs.Common.{◌≡◌, ◌≢◌, inl, inr, ℕ, ◌<◌, Bool, List, [], length, Option, Some, None, slice_set, refl, ap, ◌∙◌, sym, subst, arith}
 use Rattle.eio_value.specs.declared.raised.Outcome.{Outcome}
 use Rattle.script_forms.specs.declared.node.Node.{Node}
-use Rattle.row_model.specs.ContextCalls.{Contexts}
+use Rattle.spec_parts.specs.ContextCalls.{Contexts}
 use Rattle.cancel_tree.specs.Ended.{left_by_end}
-use Rattle.machine_model.specs.Domain as model
-use Rattle.machine_model.specs.Domain.{DomainState, never_made, fiber_at, ended}
-use Rattle.machine_model.specs.EndMoves.{ends_context, after_end, ends}
-use Rattle.machine_model.specs.GroupMoves.{branch_ended}
-use Rattle.machine_model.specs.SwitchMoves.{detached}
-use Rattle.waiting_laws.proofs.Parts.{fibers_in_step}
+use Rattle.spec_machine.specs.Domain as model
+use Rattle.spec_machine.specs.Domain.{DomainState, never_made, fiber_at, ended}
+use Rattle.spec_machine.specs.EndMoves.{ends_context, after_end, ends}
+use Rattle.spec_machine.specs.GroupMoves.{branch_ended}
+use Rattle.spec_machine.specs.SwitchMoves.{detached}
+use Rattle.domain_strikes.proofs.Waiting.Parts.{fibers_in_step}
 use Rattle.domain_core.specs.Answering.{BecomesUnder}
 use Rattle.domain_core.specs.Conditions.{IsAwake, MayEndContext, MayEnd, MayEndAs}
 use Rattle.domain_core.specs.Keeping.{KeptFiber, KeptDomain, kept_at}

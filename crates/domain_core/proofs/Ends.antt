@@ -9,16 +9,16 @@ use Rattle.eio_value.specs.declared.raised.Raised.{Raised}
 use Rattle.eio_value.specs.declared.raised.Raised.TheVariants as raised
 use Rattle.eio_value.specs.declared.value.Value.{Value}
 use Rattle.script_forms.specs.declared.node.Node.{Node}
-use Rattle.row_model.specs.Groups.{Group, BranchEnded, branch_ends, group_at, never_gathered, keeps_a_value, kept_value, outcome_in, wake_joiner, with_group}
-use Rattle.row_model.specs.Contexts.{is_live}
-use Rattle.row_model.specs.ContextCalls.{Contexts}
-use Rattle.row_model.specs.Switches.{Switch, detach, switch_at, with_switch}
+use Rattle.spec_parts.specs.Groups.{Group, BranchEnded, branch_ends, group_at, never_gathered, keeps_a_value, kept_value, outcome_in, wake_joiner, with_group}
+use Rattle.spec_parts.specs.Contexts.{is_live}
+use Rattle.spec_parts.specs.ContextCalls.{Contexts}
+use Rattle.spec_parts.specs.Switches.{Switch, detach, switch_at, with_switch}
 use Rattle.switch_core.specs.Attaching.{IsAttached}
 use Rattle.cancel_tree.specs.Endings.{HasNoLiveChild}
 use Rattle.cancel_tree.specs.Waits.{waits_in}
-use Rattle.machine_model.specs.Domain.{DomainState}
-use Rattle.machine_model.specs.GroupMoves.{branch_ended, cancels_if}
-use Rattle.machine_model.specs.SwitchMoves.{detached, fails, given_up, with_switch_at, woken_if}
+use Rattle.spec_machine.specs.Domain.{DomainState}
+use Rattle.spec_machine.specs.GroupMoves.{branch_ended, cancels_if}
+use Rattle.spec_machine.specs.SwitchMoves.{detached, fails, given_up, with_switch_at, woken_if}
 use Rattle.domain_core.specs.Answering.{BecomesUnder, SameFibers}
 use Rattle.domain_core.specs.Conditions.{IsAwake, IsParked, LeavesGroups, LeavesScopes, MayEndContext}
 use Rattle.domain_core.specs.Keeping.{KeptFiber, KeptDomain, kept_at}

@@ -9,9 +9,9 @@ use Rattle.fiber_step.specs.declared.ask.Ask.{Ask}
 use Rattle.fiber_step.specs.Kept.{position_of}
 use Rattle.fiber_step.specs.Placing.{ArePlaced}
 use Rattle.fiber_step.specs.Standing.{ask_of}
-use Rattle.step_model.specs.Replies.{Position, entered, handled}
-use Rattle.machine_model.specs.ContextMoves.{before_block}
-use Rattle.machine_model.specs.Domain.{DomainState, Fiber, fiber_at, moved_to, never_made, placed}
+use Rattle.spec_fiber.specs.Replies.{Position, entered, handled}
+use Rattle.spec_machine.specs.ContextMoves.{before_block}
+use Rattle.spec_machine.specs.Domain.{DomainState, Fiber, fiber_at, moved_to, never_made, placed}
 use Rattle.domain_core.specs.Answering.{BecomesUnder}
 use Rattle.domain_core.specs.Conditions.{IsAwake}
 use Rattle.domain_core.specs.Keeping.{KeptFiber, KeptDomain, kept_at, changed_at}

@@ -4,19 +4,19 @@ use Rattle.std.specs.Prelude.{count_by, is_some}
 use Rattle.std.proofs.lemmas.Bool.{lt-ltb, le-ltb}
 use Rattle.eio_value.specs.declared.raised.Outcome.TheVariants as outcome
 use Rattle.eio_value.specs.declared.value.Value.TheVariants as value
-use Rattle.row_model.specs.Contexts.{is_live, off}
-use Rattle.row_model.specs.Switches.{Switch, switch_at, refuses_fibers, refuses_forks}
+use Rattle.spec_parts.specs.Contexts.{is_live, off}
+use Rattle.spec_parts.specs.Switches.{Switch, switch_at, refuses_fibers, refuses_forks}
 use Rattle.script_forms.specs.Calls.{forking_of}
 use Rattle.script_code.specs.Standing.{block_at}
 use Rattle.script_forms.specs.declared.node.Node.{Node}
-use Rattle.script_model.specs.Scripts.{Script}
-use Rattle.script_model.specs.Syntax as syntax
-use Rattle.step_model.specs.Asks as ask
-use Rattle.trace_out.specs.declared.line.Said2.TheVariants as said
-use Rattle.machine_model.specs.Domain.{DomainState, GoesOn, is_full_by, live_fibers, to_head}
-use Rattle.machine_model.specs.Moves.{own_call}
-use Rattle.machine_model.specs.Steps.{Step, does, halts, told}
-use Rattle.machine_model.specs.SwitchMoves.{did_fork, makes}
+use Rattle.spec_script.specs.Scripts.{Script}
+use Rattle.spec_script.specs.Syntax as syntax
+use Rattle.spec_fiber.specs.Asks as ask
+use Rattle.trace_lines.specs.declared.line.Said2.TheVariants as said
+use Rattle.spec_machine.specs.Domain.{DomainState, GoesOn, is_full_by, live_fibers, to_head}
+use Rattle.spec_machine.specs.Moves.{own_call}
+use Rattle.spec_machine.specs.Steps.{Step, does, halts, told}
+use Rattle.spec_machine.specs.SwitchMoves.{did_fork, makes}
 use Rattle.domain_core.specs.declared.told.Told.{Told}
 use Rattle.domain_core.specs.Answering.{BecomesUnder, MakesUnder, Tells, forking_by, forks}
 use Rattle.domain_core.specs.Conditions.{HasLiveContexts}

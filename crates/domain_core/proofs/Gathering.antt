@@ -5,15 +5,15 @@ use Rattle.std.specs.List.{AllByRecursion as Each}
 use Rattle.std.proofs.lemmas.List.{append_assoc, append-nil, length-append, map-append, take_all, take_more}
 use Rattle.std.proofs.lemmas.List.Sums.{count_by-le-length, sum_by-append}
 use Rattle.eio_value.specs.declared.value.Value.{Value}
-use Rattle.script_model.specs.Syntax.{Block}
+use Rattle.spec_script.specs.Syntax.{Block}
 use Rattle.script_code.specs.Standing.{block_at}
 use Rattle.script_forms.specs.declared.node.Node.{Node}
-use Rattle.row_model.specs.Groups.{Group, GroupKind, gathered}
-use Rattle.step_model.specs.Replies.{begun}
+use Rattle.spec_parts.specs.Groups.{Group, GroupKind, gathered}
+use Rattle.spec_fiber.specs.Replies.{begun}
 use Rattle.fiber_step.specs.Having.{HasStatements}
-use Rattle.machine_model.specs.Domain as model
-use Rattle.machine_model.specs.Domain.{DomainState, OfGroup, fiber_at, made, never_made}
-use Rattle.machine_model.specs.GroupMoves.{branched}
+use Rattle.spec_machine.specs.Domain as model
+use Rattle.spec_machine.specs.Domain.{DomainState, OfGroup, fiber_at, made, never_made}
+use Rattle.spec_machine.specs.GroupMoves.{branched}
 use Rattle.domain_core.specs.Answering.{BecomesUnder, SameCounts, gathers}
 use Rattle.domain_core.specs.Conditions.{IsAwake}
 use Rattle.domain_core.specs.Keeping.{KeptFiber, KeptDomain, kept_at}

@@ -5,21 +5,21 @@ use Rattle.std.specs.List.{AllByRecursion as Each}
 use Rattle.std.proofs.lemmas.Bool.{lt-ltb, le-ltb}
 use Rattle.std.proofs.lemmas.List.{length-map, length-take-le, take-map}
 use Rattle.eio_value.specs.declared.plain.Plain.{Plain}
-use Rattle.row_model.specs.Groups.{gathered}
+use Rattle.spec_parts.specs.Groups.{gathered}
 use Rattle.script_code.specs.Standing.{block_at}
 use Rattle.script_forms.specs.declared.node.Node.{Node}
-use Rattle.script_model.specs.Scripts.{Script}
-use Rattle.script_model.specs.Syntax as syntax
-use Rattle.script_model.specs.Syntax.{Block}
-use Rattle.step_model.specs.Asks as ask
-use Rattle.step_model.specs.Asks.{Ask}
-use Rattle.step_model.specs.Replies.{other_branches}
-use Rattle.trace_out.specs.declared.line.Did.{Did}
-use Rattle.machine_model.specs.ContextMoves.{context_of, sub_of}
-use Rattle.machine_model.specs.Domain.{DomainState, fiber_at, is_full_by, live_fibers, off_for}
-use Rattle.machine_model.specs.GroupMoves.{branched, branches_in, did_branch, first_of, kind_of, makes}
-use Rattle.machine_model.specs.Moves.{own_call}
-use Rattle.machine_model.specs.Steps.{Step, halts, in_new, raises_cancelled, told}
+use Rattle.spec_script.specs.Scripts.{Script}
+use Rattle.spec_script.specs.Syntax as syntax
+use Rattle.spec_script.specs.Syntax.{Block}
+use Rattle.spec_fiber.specs.Asks as ask
+use Rattle.spec_fiber.specs.Asks.{Ask}
+use Rattle.spec_fiber.specs.Replies.{other_branches}
+use Rattle.trace_lines.specs.declared.line.Did.{Did}
+use Rattle.spec_machine.specs.ContextMoves.{context_of, sub_of}
+use Rattle.spec_machine.specs.Domain.{DomainState, fiber_at, is_full_by, live_fibers, off_for}
+use Rattle.spec_machine.specs.GroupMoves.{branched, branches_in, did_branch, first_of, kind_of, makes}
+use Rattle.spec_machine.specs.Moves.{own_call}
+use Rattle.spec_machine.specs.Steps.{Step, halts, in_new, raises_cancelled, told}
 use Rattle.domain_core.specs.declared.told.Told.{Told}
 use Rattle.domain_core.specs.Answering.{BecomesUnder, HoldsOf, MakesUnder, Tells, enters_block, gathers, heads_with}
 use Rattle.domain_core.specs.Keeping.{KeptFiber, KeptDomain, kept_at}

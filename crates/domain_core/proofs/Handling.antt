@@ -4,28 +4,28 @@ use Rattle.std.proofs.lemmas.List.Elements.{All-contains}
 use Rattle.eio_value.specs.declared.raised.Outcome.TheVariants as outcome
 use Rattle.eio_value.specs.declared.value.Value.{Value}
 use Rattle.eio_value.specs.declared.value.Value.TheVariants as value
-use Rattle.trace_out.specs.declared.line.Did.TheVariants as did
-use Rattle.trace_out.specs.declared.line.Said2.TheVariants as said
-use Rattle.script_model.specs.Scripts.{Script}
-use Rattle.script_model.specs.Syntax.{Block, Begins}
-use Rattle.script_laws.specs.Soundness.{IsSound, IsSoundBlock}
+use Rattle.trace_lines.specs.declared.line.Did.TheVariants as did
+use Rattle.trace_lines.specs.declared.line.Said2.TheVariants as said
+use Rattle.spec_script.specs.Scripts.{Script}
+use Rattle.spec_script.specs.Syntax.{Block, Begins}
+use Rattle.law_script.specs.Scripts.Soundness.{IsSound, IsSoundBlock}
 use Rattle.script_forms.specs.Flat.{nodes_of}
 use Rattle.script_code.specs.Numbered.{HasNumbers, IsNumberedBlock}
 use Rattle.script_code.specs.Standing.{block_at}
 use Rattle.script_forms.specs.declared.node.Node.{Node}
-use Rattle.step_model.specs.Asks as asks
-use Rattle.step_model.specs.Numbered.{number_of, block_numbered}
-use Rattle.step_model.specs.Replies.{Position, handled}
-use Rattle.row_model.specs.Switches.{Handler}
-use Rattle.block_laws.specs.Beginnings.{BeginsBlock, StandsAtNumber, IsSoundSomewhere, blocks_in}
-use Rattle.block_laws.proofs.Beginning.{blocks_by_node}
+use Rattle.spec_fiber.specs.Asks as asks
+use Rattle.spec_fiber.specs.Numbered.{number_of, block_numbered}
+use Rattle.spec_fiber.specs.Replies.{Position, handled}
+use Rattle.spec_parts.specs.Switches.{Handler}
+use Rattle.fiber_step.specs.Blocks.Beginnings.{BeginsBlock, StandsAtNumber, IsSoundSomewhere, blocks_in}
+use Rattle.fiber_step.proofs.Blocks.Beginning.{blocks_by_node}
 use Rattle.fiber_step.specs.declared.ask.Ask.{Ask}
 use Rattle.fiber_step.specs.Having.{HasStatements}
 use Rattle.fiber_step.specs.Standing.{ask_of}
-use Rattle.machine_model.specs.ContextMoves.{enters_context, protected_of}
-use Rattle.machine_model.specs.Domain as model
-use Rattle.machine_model.specs.Domain.{DomainState, Fiber, fiber_at, moved_to, never_made, placed, to_head}
-use Rattle.machine_model.specs.SwitchMoves.{runs}
+use Rattle.spec_machine.specs.ContextMoves.{enters_context, protected_of}
+use Rattle.spec_machine.specs.Domain as model
+use Rattle.spec_machine.specs.Domain.{DomainState, Fiber, fiber_at, moved_to, never_made, placed, to_head}
+use Rattle.spec_machine.specs.SwitchMoves.{runs}
 use Rattle.domain_core.specs.Answering.{BecomesUnder, HoldsOf, MakesUnder}
 use Rattle.domain_core.specs.Conditions.{IsAwake}
 use Rattle.domain_core.specs.Keeping.{KeptFiber, KeptDomain, changed_at}

@@ -4,13 +4,13 @@ use Rattle.std.specs.Prelude.{is_some}
 use Rattle.std.proofs.lemmas.Bool.{eqb-true}
 use Rattle.eio_value.specs.declared.raised.Outcome.{Outcome}
 use Rattle.script_forms.specs.Flat.{nodes_of}
-use Rattle.script_model.specs.Scripts.{Script}
-use Rattle.step_model.specs.Asks as ask
-use Rattle.row_model.specs.Groups.{Group, JoinStep, Joined, Wait, group_at, join, result_of, with_group}
-use Rattle.domain_laws.specs.SoundStates.{own_branches}
-use Rattle.machine_model.specs.Domain.{DomainState}
-use Rattle.machine_model.specs.GroupMoves.{joined_by, own_ended}
-use Rattle.machine_model.specs.Moves.{own_call}
+use Rattle.spec_script.specs.Scripts.{Script}
+use Rattle.spec_fiber.specs.Asks as ask
+use Rattle.spec_parts.specs.Groups.{Group, JoinStep, Joined, Wait, group_at, join, result_of, with_group}
+use Rattle.law_domain.specs.Sound.SoundStates.{own_branches}
+use Rattle.spec_machine.specs.Domain.{DomainState}
+use Rattle.spec_machine.specs.GroupMoves.{joined_by, own_ended}
+use Rattle.spec_machine.specs.Moves.{own_call}
 use Rattle.domain_core.specs.declared.told.Told.{Told}
 use Rattle.domain_core.specs.Answering.{BecomesUnder, MakesUnder}
 use Rattle.domain_core.specs.Conditions.{HasRoomForParked, LeavesGroups, MayEndContext, MayJoin}

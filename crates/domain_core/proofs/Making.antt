@@ -1,16 +1,16 @@
 -- One fiber more on both sides.
 use Rattle.std.proofs.Common.{◌≡◌, ◌⊎◌, inl, inr, ℕ, zero, suc, ◌+◌, ◌<◌, Bool, List, [], ◌∷◌, ◌++◌, length, Option, Some, None, refl, ap, ◌∙◌, sym, subst, arith}
 use Rattle.script_forms.specs.declared.node.Node.{Node}
-use Rattle.machine_model.specs.Domain as model
-use Rattle.machine_model.specs.Domain.{DomainState, never_made, fiber_at, made}
+use Rattle.spec_machine.specs.Domain as model
+use Rattle.spec_machine.specs.Domain.{DomainState, never_made, fiber_at, made}
 use Rattle.eio_value.specs.declared.raised.Outcome.TheVariants as outcome
 use Rattle.eio_value.specs.declared.value.Value.TheVariants as value
-use Rattle.row_model.specs.Switches.{Switch, switch_at, with_switch, attach}
+use Rattle.spec_parts.specs.Switches.{Switch, switch_at, with_switch, attach}
 use Rattle.script_code.specs.Standing.{block_at}
-use Rattle.step_model.specs.Replies.{Position, begun}
+use Rattle.spec_fiber.specs.Replies.{Position, begun}
 use Rattle.fiber_step.specs.Kept.{Kept, position_of}
 use Rattle.fiber_step.specs.Placing.{ArePlaced}
-use Rattle.waiting_laws.proofs.Alike.{domains_in_step}
+use Rattle.domain_strikes.proofs.Waiting.Alike.{domains_in_step}
 use Rattle.domain_core.specs.Answering.{forks}
 use Rattle.domain_core.specs.Conditions.{IsAwake}
 use Rattle.domain_core.specs.Keeping.{KeptFiber, KeptDomain, kept_at, new_fiber}

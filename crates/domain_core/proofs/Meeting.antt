@@ -6,21 +6,21 @@ use Rattle.domain_core.specs.Moving.{IsMetBy, MayAnswer}
 use Rattle.domain_core.proofs.MeetingCounts as counts
 use Rattle.domain_core.proofs.MeetingCounts.{IsAtCall, at_call}
 use Rattle.domain_core.proofs.MeetingScopes as scopes
-use Rattle.domain_laws.specs.BuiltForms.{IsBuiltCall}
-use Rattle.domain_laws.specs.Conditions.{IsMet}
-use Rattle.domain_kinds.specs.Laws.{WereMade}
+use Rattle.law_domain.specs.Sound.BuiltForms.{IsBuiltCall}
+use Rattle.law_domain.specs.Sound.Conditions.{IsMet}
+use Rattle.law_domain.specs.Kinded.Laws.{WereMade}
 use Rattle.fiber_step.specs.declared.ask.Ask.{Ask}
 use Rattle.fiber_step.specs.declared.ask.Ask.TheVariants as ask
 use Rattle.fiber_step.specs.Standing.{ask_of}
-use Rattle.machine_model.specs.Domain.{DomainState}
-use Rattle.machine_model.specs.Preparing.{Calls, Prepared, prepared}
+use Rattle.spec_machine.specs.Domain.{DomainState}
+use Rattle.spec_machine.specs.Preparing.{Calls, Prepared, prepared}
 use Rattle.script_forms.specs.Flat.{nodes_of}
 use Rattle.script_forms.specs.declared.node.Forking.{Forking}
 use Rattle.script_forms.specs.declared.node.Forking.TheVariants as forking
-use Rattle.script_model.specs.Scripts.{Script}
-use Rattle.step_model.specs.Asks.{Ask as Called}
-use Rattle.well_laws.specs.WellStates.{CallsWell, IsRunnable, StandsWell}
-use Rattle.well_laws.proofs.Standing.{moves_call_well}
+use Rattle.spec_script.specs.Scripts.{Script}
+use Rattle.spec_fiber.specs.Asks.{Ask as Called}
+use Rattle.law_domain.specs.Well.WellStates.{CallsWell, IsRunnable, StandsWell}
+use Rattle.law_domain.proofs.Well.Standing.{moves_call_well}
 
 module _ (script : Script) {texts : List (List ℕ)} {l : DomainState} {g : ℕ} {others : List ℕ} {kept : KeptDomain} (at : IsAtCall (nodes_of script) texts l g others kept)
     (well : StandsWell script l) where

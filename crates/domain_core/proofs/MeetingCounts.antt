@@ -2,21 +2,21 @@
 use Rattle.std.proofs.Common.{◌≡◌, inl, inr, ℕ, ◌+◌, ◌-◌, ◌^◌, ◌<◌, ◌≤◌, true, false, List, [], ◌∷◌, length, Option, Some, None, refl, ap, ◌∙◌, sym, subst, true≢false, arith}
 use Rattle.std.specs.Prelude.{count_by, is_some}
 use Rattle.std.specs.List.{Contains}
-use Rattle.row_model.specs.Contexts.{is_live}
+use Rattle.spec_parts.specs.Contexts.{is_live}
 use Rattle.script_forms.specs.declared.node.Node.{Node}
-use Rattle.step_model.specs.Asks.{Ask}
-use Rattle.step_model.specs.Settling.{Settled}
-use Rattle.machine_model.specs.Domain.{Fiber, Next, Ready, Parked, ForOthers, Standing, DomainState, never_made, fiber_at, has_ended, live_fibers}
-use Rattle.machine_model.specs.Preparing.{called_by}
-use Rattle.domain_laws.specs.Conditions.{Calls}
-use Rattle.domain_laws.specs.Scopes.{scopes_of}
-use Rattle.domain_laws.specs.SoundStates.{IsSoundState}
-use Rattle.domain_laws.proofs.ByNumber.{set_same, set_keeps_length}
-use Rattle.domain_laws.proofs.Counting.{few_stand, live_same}
-use Rattle.domain_laws.proofs.Following.{ready_live}
-use Rattle.domain_laws.proofs.Lists.{contains_cases, front_apart}
-use Rattle.waiting_laws.specs.WhoWaits.{contexts_of}
-use Rattle.waiting_laws.proofs.Alike.{contexts_in_step}
+use Rattle.spec_fiber.specs.Asks.{Ask}
+use Rattle.spec_fiber.specs.Settling.{Settled}
+use Rattle.spec_machine.specs.Domain.{Fiber, Next, Ready, Parked, ForOthers, Standing, DomainState, never_made, fiber_at, has_ended, live_fibers}
+use Rattle.spec_machine.specs.Preparing.{called_by}
+use Rattle.law_domain.specs.Sound.Conditions.{Calls}
+use Rattle.law_domain.specs.Sound.Scopes.{scopes_of}
+use Rattle.law_domain.specs.Sound.SoundStates.{IsSoundState}
+use Rattle.law_domain.proofs.Sound.ByNumber.{set_same, set_keeps_length}
+use Rattle.law_domain.proofs.Sound.Counting.{few_stand, live_same}
+use Rattle.law_domain.proofs.Sound.Following.{ready_live}
+use Rattle.law_domain.proofs.Sound.Lists.{contains_cases, front_apart}
+use Rattle.domain_strikes.specs.Waiting.WhoWaits.{contexts_of}
+use Rattle.domain_strikes.proofs.Waiting.Alike.{contexts_in_step}
 use Rattle.cancel_tree.specs.Forgetting.{AnswersAlike}
 use Rattle.domain_core.specs.Conditions.{HasRoomForParked, IsAwake, RunsInLive, waits_so}
 use Rattle.domain_core.specs.Keeping.{KeptFiber, KeptDomain, kept_at}

@@ -3,31 +3,31 @@ use Rattle.std.proofs.Common.{◌≡◌, inl, inr, ℕ, ◌+◌, ◌<◌, ◌≤
 use Rattle.std.specs.Prelude.{is_some}
 use Rattle.std.specs.List.{Contains}
 use Rattle.std.proofs.lemmas.List.Elements.{All-contains}
-use Rattle.block_laws.proofs.Finding.{blocks_by_number}
+use Rattle.fiber_step.proofs.Blocks.Finding.{blocks_by_number}
 use Rattle.cancel_tree.specs.Forgetting as forgetting
-use Rattle.domain_kinds.specs.KindedStates.{IsKinded, IsKindedHandler, handlers_of, made_facts}
-use Rattle.domain_laws.specs.Conditions as laws
-use Rattle.domain_laws.specs.Conditions.{IsAlone, EndsAs, HasSoundSwitches}
-use Rattle.domain_laws.specs.SoundStates.{attached_to, own_branches}
-use Rattle.domain_laws.proofs.Conditions.{switches_are_sound}
-use Rattle.domain_laws.proofs.Counting.{live_same}
+use Rattle.law_domain.specs.Kinded.KindedStates.{IsKinded, IsKindedHandler, handlers_of, made_facts}
+use Rattle.law_domain.specs.Sound.Conditions as laws
+use Rattle.law_domain.specs.Sound.Conditions.{IsAlone, EndsAs, HasSoundSwitches}
+use Rattle.law_domain.specs.Sound.SoundStates.{attached_to, own_branches}
+use Rattle.law_domain.proofs.Sound.Conditions.{switches_are_sound}
+use Rattle.law_domain.proofs.Sound.Counting.{live_same}
 use Rattle.eio_value.specs.declared.raised.Outcome.{Outcome}
-use Rattle.kind_laws.specs.Kinds.{IsOfScript}
-use Rattle.kind_laws.proofs.Between.{is_of_script}
-use Rattle.machine_model.specs.Domain.{Fiber, Role, OfBody, OfSwitch, OfGroup, OfJob, OfWriter, Next, Ready, DomainState, fiber_at, live_fibers}
-use Rattle.row_model.specs.ContextCalls.{End}
-use Rattle.row_model.specs.Contexts.{is_live}
-use Rattle.row_model.specs.Groups.{Group, group_at}
-use Rattle.row_model.specs.Switches.{Switch, switch_at}
+use Rattle.law_fiber.specs.Kinded.Kinds.{IsOfScript}
+use Rattle.law_fiber.proofs.Kinded.Between.{is_of_script}
+use Rattle.spec_machine.specs.Domain.{Fiber, Role, OfBody, OfSwitch, OfGroup, OfJob, OfWriter, Next, Ready, DomainState, fiber_at, live_fibers}
+use Rattle.spec_parts.specs.ContextCalls.{End}
+use Rattle.spec_parts.specs.Contexts.{is_live}
+use Rattle.spec_parts.specs.Groups.{Group, group_at}
+use Rattle.spec_parts.specs.Switches.{Switch, switch_at}
 use Rattle.script_forms.specs.declared.node.Node.{Node}
-use Rattle.script_model.specs.Scripts.{Script}
-use Rattle.step_model.specs.Numbered.{block_numbered}
+use Rattle.spec_script.specs.Scripts.{Script}
+use Rattle.spec_fiber.specs.Numbered.{block_numbered}
 use Rattle.switch_core.specs.Attaching.{IsAttached}
-use Rattle.waiting_laws.specs.WhoWaits.{can_be_struck, contexts_of}
-use Rattle.waiting_laws.proofs.Alike.{contexts_in_step}
-use Rattle.waiting_laws.proofs.Listed.{by_standing}
+use Rattle.domain_strikes.specs.Waiting.WhoWaits.{can_be_struck, contexts_of}
+use Rattle.domain_strikes.proofs.Waiting.Alike.{contexts_in_step}
+use Rattle.domain_strikes.proofs.Waiting.Listed.{by_standing}
 use Rattle.cancel_tree.specs.Waits.{waits, waits_in}
-use Rattle.machine_model.specs.Steps.{waiting_from}
+use Rattle.spec_machine.specs.Steps.{waiting_from}
 use Rattle.domain_core.specs.Conditions.{HandlersBegin, HasLiveContexts, IsAttachedToNone, MayClose, MayEnd, MayEndAs, MayEndContext, MayJoin}
 use Rattle.domain_core.specs.Keeping.{KeptDomain}
 use Rattle.domain_core.proofs.MeetingCounts.{IsAtCall, at_call, alike, live_there, same_count, same_groups, same_switches, same_context, same_ended, same_role, stands_for, stands_ready}

@@ -5,17 +5,17 @@ use Rattle.std.specs.Option.{option_map}
 use Rattle.std.proofs.lemmas.Option.{none-some}
 use Rattle.eio_value.specs.declared.raised.Outcome.{Outcome}
 use Rattle.script_forms.specs.declared.node.Node.{Node}
-use Rattle.machine_model.specs.Domain as model
-use Rattle.machine_model.specs.Domain.{Duty, DomainState, never_made, fiber_at, with_fiber, has_ended, stands, to_head, to_back}
-use Rattle.machine_model.specs.Steps.{Step}
-use Rattle.machine_model.specs.Trace.{body_end}
-use Rattle.row_model.specs.ContextCalls.{Contexts}
-use Rattle.row_model.specs.Contexts.{Context}
-use Rattle.row_model.specs.Groups.{Group}
-use Rattle.row_model.specs.Switches.{Switch}
-use Rattle.waiting_laws.specs.InStep.{AreContexts}
-use Rattle.waiting_laws.specs.WhoWaits.{WaitsAlike, can_be_struck, contexts_of}
-use Rattle.waiting_laws.proofs.Alike.{one_unseen}
+use Rattle.spec_machine.specs.Domain as model
+use Rattle.spec_machine.specs.Domain.{Duty, DomainState, never_made, fiber_at, with_fiber, has_ended, stands, to_head, to_back}
+use Rattle.spec_machine.specs.Steps.{Step}
+use Rattle.spec_machine.specs.Trace.{body_end}
+use Rattle.spec_parts.specs.ContextCalls.{Contexts}
+use Rattle.spec_parts.specs.Contexts.{Context}
+use Rattle.spec_parts.specs.Groups.{Group}
+use Rattle.spec_parts.specs.Switches.{Switch}
+use Rattle.domain_strikes.specs.Waiting.InStep.{AreContexts}
+use Rattle.domain_strikes.specs.Waiting.WhoWaits.{WaitsAlike, can_be_struck, contexts_of}
+use Rattle.domain_strikes.proofs.Waiting.Alike.{one_unseen}
 use Rattle.domain_core.specs.declared.told.Told.{Told}
 use Rattle.domain_core.specs.Answering.{Tells}
 use Rattle.domain_core.specs.Conditions.{waits_so}

@@ -4,18 +4,18 @@ use Rattle.eio_value.specs.declared.raised.Outcome.{Outcome}
 use Rattle.fiber_step.specs.declared.ask.Ask.{Ask}
 use Rattle.fiber_step.specs.Standing.{ask_of}
 use Rattle.script_forms.specs.Flat.{nodes_of}
-use Rattle.script_model.specs.Scripts.{Script}
-use Rattle.script_model.specs.Syntax.{Plain, Daemon}
-use Rattle.step_model.specs.Asks as ask
-use Rattle.step_model.specs.Asks.{Ask as Called}
-use Rattle.machine_model.specs.Asking.{asks_by, asks_for, end_of}
-use Rattle.machine_model.specs.Domain.{Role, OfBody, OfSwitch, OfGroup, DomainState, fiber_at}
-use Rattle.machine_model.specs.Labels.{Own}
-use Rattle.machine_model.specs.Moves.{asks, own_call, own_move}
-use Rattle.machine_model.specs.Preparing.{Prepared, prepared}
-use Rattle.domain_laws.specs.BuiltForms.{IsBuiltCall}
-use Rattle.domain_laws.specs.SoundStates.{IsBuiltRole}
-use Rattle.well_laws.specs.WellStates.{IsRunnable}
+use Rattle.spec_script.specs.Scripts.{Script}
+use Rattle.spec_script.specs.Syntax.{Plain, Daemon}
+use Rattle.spec_fiber.specs.Asks as ask
+use Rattle.spec_fiber.specs.Asks.{Ask as Called}
+use Rattle.spec_machine.specs.Asking.{asks_by, asks_for, end_of}
+use Rattle.spec_machine.specs.Domain.{Role, OfBody, OfSwitch, OfGroup, DomainState, fiber_at}
+use Rattle.spec_machine.specs.Labels.{Own}
+use Rattle.spec_machine.specs.Moves.{asks, own_call, own_move}
+use Rattle.spec_machine.specs.Preparing.{Prepared, prepared}
+use Rattle.law_domain.specs.Sound.BuiltForms.{IsBuiltCall}
+use Rattle.law_domain.specs.Sound.SoundStates.{IsBuiltRole}
+use Rattle.law_domain.specs.Well.WellStates.{IsRunnable}
 use Rattle.domain_core.specs.declared.told.Told.{Told}
 use Rattle.domain_core.specs.Answering.{Answers}
 use Rattle.domain_core.specs.Keeping.{KeptDomain}

@@ -9,26 +9,26 @@ use Rattle.eio_value.specs.declared.value.Value.{Value}
 use Rattle.fiber_step.specs.declared.ask.Ask.{Ask}
 use Rattle.fiber_step.specs.Settling.{HasTextsOfOutcome}
 use Rattle.fiber_step.specs.Standing.{ask_of, works_of}
-use Rattle.row_model.specs.Contexts.{is_live}
+use Rattle.spec_parts.specs.Contexts.{is_live}
 use Rattle.script_forms.specs.Flat.{nodes_of}
 use Rattle.script_forms.specs.declared.node.Node.{Node}
-use Rattle.script_model.specs.Opening.{opening_texts}
-use Rattle.script_model.specs.Scripts.{Script}
-use Rattle.step_model.specs.Asks.{Ask as Called}
-use Rattle.step_model.specs.Replies.{passed}
-use Rattle.step_model.specs.Settling.{Settled}
-use Rattle.step_model.specs.Work.{Work, Carry}
-use Rattle.machine_model.specs.Domain as model
-use Rattle.machine_model.specs.Domain.{Fiber, DomainState, never_made, fiber_at, has_ended, off_for}
-use Rattle.machine_model.specs.Preparing.{Prepared, Calls, prepared, next_call, next_of, carry_of, called_by}
-use Rattle.domain_laws.specs.Conditions.{Calls as CallsSo}
-use Rattle.text_laws.specs.Laws.{HasFailureTexts}
-use Rattle.text_laws.specs.Texts.{IsHeldOutcome, known_in}
-use Rattle.text_laws.proofs.Moving.{known_have_texts}
-use Rattle.waiting_laws.specs.WhoWaits.{WaitsAlike, contexts_of}
-use Rattle.waiting_laws.proofs.Alike.{contexts_in_step}
-use Rattle.well_laws.specs.WellStates.{CallsWell, IsRunnable, StandsWell}
-use Rattle.well_laws.proofs.Standing.{moves_call_well}
+use Rattle.spec_script.specs.Opening.{opening_texts}
+use Rattle.spec_script.specs.Scripts.{Script}
+use Rattle.spec_fiber.specs.Asks.{Ask as Called}
+use Rattle.spec_fiber.specs.Replies.{passed}
+use Rattle.spec_fiber.specs.Settling.{Settled}
+use Rattle.spec_fiber.specs.Work.{Work, Carry}
+use Rattle.spec_machine.specs.Domain as model
+use Rattle.spec_machine.specs.Domain.{Fiber, DomainState, never_made, fiber_at, has_ended, off_for}
+use Rattle.spec_machine.specs.Preparing.{Prepared, Calls, prepared, next_call, next_of, carry_of, called_by}
+use Rattle.law_domain.specs.Sound.Conditions.{Calls as CallsSo}
+use Rattle.law_fiber.specs.Texts.Laws.{HasFailureTexts}
+use Rattle.law_fiber.specs.Texts.Texts.{IsHeldOutcome, known_in}
+use Rattle.law_domain.proofs.Texts.Moving.{known_have_texts}
+use Rattle.domain_strikes.specs.Waiting.WhoWaits.{WaitsAlike, contexts_of}
+use Rattle.domain_strikes.proofs.Waiting.Alike.{contexts_in_step}
+use Rattle.law_domain.specs.Well.WellStates.{CallsWell, IsRunnable, StandsWell}
+use Rattle.law_domain.proofs.Well.Standing.{moves_call_well}
 use Rattle.domain_core.specs.declared.standing.Again.{Again}
 use Rattle.domain_core.specs.declared.standing.Next.TheVariants as next
 use Rattle.domain_core.specs.declared.standing.Standing.{Standing}

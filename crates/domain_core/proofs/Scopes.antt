@@ -9,19 +9,19 @@ use Rattle.eio_value.specs.declared.raised.Raised.TheVariants as raised
 use Rattle.eio_value.specs.declared.value.TextId.{TextId}
 use Rattle.eio_value.specs.declared.value.Value.{Value}
 use Rattle.eio_value.specs.declared.value.Value.TheVariants as value
-use Rattle.row_model.specs.Contexts.{is_live}
-use Rattle.row_model.specs.Switches.{Switch, opened, switch_at}
+use Rattle.spec_parts.specs.Contexts.{is_live}
+use Rattle.spec_parts.specs.Switches.{Switch, opened, switch_at}
 use Rattle.script_code.specs.Standing.{block_at}
 use Rattle.script_forms.specs.declared.node.Node.{Node}
-use Rattle.step_model.specs.Asks.{Ask}
-use Rattle.trace_out.specs.declared.line.Did.TheVariants as did
-use Rattle.trace_out.specs.declared.line.Said2.TheVariants as said
-use Rattle.waiting_laws.proofs.Alike.{contexts_in_step}
-use Rattle.waiting_laws.specs.WhoWaits.{contexts_of}
-use Rattle.machine_model.specs.ContextMoves.{before_block, cancel, enters_context, left_with, protected_of}
-use Rattle.machine_model.specs.Domain.{DomainState, GoesOn, fiber_at, to_head}
-use Rattle.machine_model.specs.Steps.{Step, cancels, does, in_new, new_raise, raises, raises_again, told}
-use Rattle.machine_model.specs.SwitchMoves.{fail, fails, opens, release, with_switch_at}
+use Rattle.spec_fiber.specs.Asks.{Ask}
+use Rattle.trace_lines.specs.declared.line.Did.TheVariants as did
+use Rattle.trace_lines.specs.declared.line.Said2.TheVariants as said
+use Rattle.domain_strikes.proofs.Waiting.Alike.{contexts_in_step}
+use Rattle.domain_strikes.specs.Waiting.WhoWaits.{contexts_of}
+use Rattle.spec_machine.specs.ContextMoves.{before_block, cancel, enters_context, left_with, protected_of}
+use Rattle.spec_machine.specs.Domain.{DomainState, GoesOn, fiber_at, to_head}
+use Rattle.spec_machine.specs.Steps.{Step, cancels, does, in_new, new_raise, raises, raises_again, told}
+use Rattle.spec_machine.specs.SwitchMoves.{fail, fails, opens, release, with_switch_at}
 use Rattle.domain_core.specs.Answering.{BecomesUnder, registers}
 use Rattle.domain_core.specs.Keeping.{KeptDomain}
 use Rattle.domain_core.specs.Mirrors.{Mirrors}

@@ -7,25 +7,25 @@ use Rattle.eio_value.specs.declared.plain.Plain.{Plain}
 use Rattle.eio_value.specs.declared.raised.Raised.{Raised}
 use Rattle.eio_value.specs.Exceptions.{reason}
 use Rattle.script_forms.specs.declared.node.Node.{Node}
-use Rattle.row_model.specs.Contexts as contexts
-use Rattle.row_model.specs.Contexts.{Context, context_at, is_live, off, cancel, end, sub, protect, takes_effect, to_be_struck}
-use Rattle.row_model.specs.ContextCalls.{Contexts, Cancel, Protect, Sub, called}
-use Rattle.row_model.specs.Errors.{joined}
-use Rattle.row_model.specs.Switches.{Switch, fail, never_opened, switch_at, with_switch}
+use Rattle.spec_parts.specs.Contexts as contexts
+use Rattle.spec_parts.specs.Contexts.{Context, context_at, is_live, off, cancel, end, sub, protect, takes_effect, to_be_struck}
+use Rattle.spec_parts.specs.ContextCalls.{Contexts, Cancel, Protect, Sub, called}
+use Rattle.spec_parts.specs.Errors.{joined}
+use Rattle.spec_parts.specs.Switches.{Switch, fail, never_opened, switch_at, with_switch}
 use Rattle.cancel_tree.specs.Ended.{left_by_end}
 use Rattle.cancel_tree.specs.Forgetting.{AnswersAlike}
 use Rattle.cancel_tree.specs.Waits.{waits_in}
-use Rattle.strike_queue.specs.Owing.{StrikesAtOnce}
-use Rattle.machine_model.specs.ContextMoves.{leaves, sub_of, protected_of}
-use Rattle.machine_model.specs.Domain.{Duty, DomainState, fiber_at, moved_to, off_for}
-use Rattle.machine_model.specs.Steps.{cancels, strike_by}
-use Rattle.machine_model.specs.SwitchMoves.{fails, with_switch_at}
-use Rattle.waiting_laws.specs.InStep.{AreContexts}
-use Rattle.waiting_laws.specs.Parts.{NobodyWaitsIn}
-use Rattle.waiting_laws.specs.WhoWaits.{can_be_struck, contexts_of}
-use Rattle.waiting_laws.proofs.Alike.{contexts_in_step, domains_in_step, strikes_in_step}
-use Rattle.waiting_laws.proofs.Listed.{by_standing}
-use Rattle.waiting_laws.proofs.Parts.{calls_in_step}
+use Rattle.domain_strikes.specs.Owing.{StrikesAtOnce}
+use Rattle.spec_machine.specs.ContextMoves.{leaves, sub_of, protected_of}
+use Rattle.spec_machine.specs.Domain.{Duty, DomainState, fiber_at, moved_to, off_for}
+use Rattle.spec_machine.specs.Steps.{cancels, strike_by}
+use Rattle.spec_machine.specs.SwitchMoves.{fails, with_switch_at}
+use Rattle.domain_strikes.specs.Waiting.InStep.{AreContexts}
+use Rattle.domain_strikes.specs.Waiting.Parts.{NobodyWaitsIn}
+use Rattle.domain_strikes.specs.Waiting.WhoWaits.{can_be_struck, contexts_of}
+use Rattle.domain_strikes.proofs.Waiting.Alike.{contexts_in_step, domains_in_step, strikes_in_step}
+use Rattle.domain_strikes.proofs.Waiting.Listed.{by_standing}
+use Rattle.domain_strikes.proofs.Waiting.Parts.{calls_in_step}
 use Rattle.domain_core.specs.Answering.{Becomes, BecomesUnder, SameFibers}
 use Rattle.domain_core.specs.Conditions.{IsAwake, LeavesScopes, MayEndContext}
 use Rattle.domain_core.specs.Keeping.{KeptFiber, KeptDomain, kept_at, changed_at}

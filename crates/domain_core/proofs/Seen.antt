@@ -8,7 +8,7 @@ use Rattle.slab.specs.Slab.{Slab, get, slab_len, with_value, Updates}
 use Rattle.eio_value.specs.declared.raised.Outcome.TheVariants as outcome
 use Rattle.eio_value.specs.declared.raised.Raised.{Raised}
 use Rattle.fiber_step.specs.Kept.{Kept}
-use Rattle.machine_model.specs.Domain as model
+use Rattle.spec_machine.specs.Domain as model
 use Rattle.domain_core.specs.declared.fiber.Fiber.{Fiber}
 use Rattle.domain_core.specs.declared.standing.Next.TheVariants as next
 use Rattle.domain_core.specs.declared.standing.Standing.{Standing}

@@ -2,24 +2,24 @@
 use Rattle.std.proofs.Common.{◌≡◌, ℕ, zero, suc, ◌*◌, ◌^◌, ◌<◌, Bool, false, List, [], ◌∷◌, length, Option, Some, None, refl, ap, ap₂, ◌∙◌, sym, subst}
 use Rattle.std.specs.Prelude.{slice_get}
 use Rattle.std.specs.Option.{unwrap_or}
-use Rattle.row_model.specs.ContextCalls.{Contexts, Root, no_contexts, called}
-use Rattle.row_model.specs.Groups.{Group}
-use Rattle.row_model.specs.Switches.{Switch}
+use Rattle.spec_parts.specs.ContextCalls.{Contexts, Root, no_contexts, called}
+use Rattle.spec_parts.specs.Groups.{Group}
+use Rattle.spec_parts.specs.Switches.{Switch}
 use Rattle.fiber_step.specs.Kept.{Kept, position_of}
 use Rattle.fiber_step.specs.Placing.{ArePlaced}
 use Rattle.script_forms.specs.Flat.{nodes_of}
 use Rattle.script_code.specs.Standing.{block_at}
 use Rattle.script_forms.specs.declared.node.Node.{Node}
-use Rattle.script_model.specs.Opening.{opening_texts}
-use Rattle.script_model.specs.Scripts.{Script}
-use Rattle.script_model.specs.Syntax.{Block, Begins, Done}
-use Rattle.step_model.specs.Replies.{Position, begun}
-use Rattle.machine_model.specs.Domain.{Duty, OfBody, fiber_at}
-use Rattle.machine_model.specs.Mock.{opening_domain}
-use Rattle.domain_laws.specs.Laws.{body_of}
-use Rattle.waiting_laws.proofs.Parts.{calls_in_step}
-use Rattle.well_laws.specs.WellStates.{IsRunnable}
-use Rattle.well_laws.proofs.Standing.{opens_well}
+use Rattle.spec_script.specs.Opening.{opening_texts}
+use Rattle.spec_script.specs.Scripts.{Script}
+use Rattle.spec_script.specs.Syntax.{Block, Begins, Done}
+use Rattle.spec_fiber.specs.Replies.{Position, begun}
+use Rattle.spec_machine.specs.Domain.{Duty, OfBody, fiber_at}
+use Rattle.spec_machine.specs.Mock.{opening_domain}
+use Rattle.law_domain.specs.Sound.Laws.{body_of}
+use Rattle.domain_strikes.proofs.Waiting.Parts.{calls_in_step}
+use Rattle.law_domain.specs.Well.WellStates.{IsRunnable}
+use Rattle.law_domain.proofs.Well.Standing.{opens_well}
 use Rattle.domain_core.specs.Keeping.{KeptFiber, KeptDomain, kept_at, new_fiber}
 use Rattle.domain_core.specs.Mirrors.{IsKept, Mirrors}
 use Rattle.domain_core.specs.Turns.{Starts}

@@ -8,17 +8,17 @@ use Rattle.eio_value.specs.declared.plain.Plain.TheVariants.{Exit}
 use Rattle.eio_value.specs.declared.raised.Outcome.TheVariants as outcome
 use Rattle.eio_value.specs.declared.raised.Raised.{Raised}
 use Rattle.eio_value.specs.declared.raised.Raised.TheVariants.{Cancelled}
-use Rattle.row_model.specs.ContextCalls.{Contexts, Unwait, called}
-use Rattle.row_model.specs.Contexts.{is_live, off}
+use Rattle.spec_parts.specs.ContextCalls.{Contexts, Unwait, called}
+use Rattle.spec_parts.specs.Contexts.{is_live, off}
 use Rattle.script_forms.specs.declared.node.Node.{Node}
-use Rattle.trace_out.specs.declared.line.Did.TheVariants as did
-use Rattle.trace_out.specs.declared.line.Said2.TheVariants as said
-use Rattle.waiting_laws.specs.WhoWaits.{can_be_struck}
-use Rattle.waiting_laws.proofs.Alike.{domains_in_step}
-use Rattle.machine_model.specs.Domain as model
-use Rattle.machine_model.specs.Domain.{Duty, DomainState, fiber_at, off_for, stands}
-use Rattle.machine_model.specs.DutyMoves.{own_duty, own_strike, strike_told}
-use Rattle.machine_model.specs.Steps.{member, strike_by}
+use Rattle.trace_lines.specs.declared.line.Did.TheVariants as did
+use Rattle.trace_lines.specs.declared.line.Said2.TheVariants as said
+use Rattle.domain_strikes.specs.Waiting.WhoWaits.{can_be_struck}
+use Rattle.domain_strikes.proofs.Waiting.Alike.{domains_in_step}
+use Rattle.spec_machine.specs.Domain as model
+use Rattle.spec_machine.specs.Domain.{Duty, DomainState, fiber_at, off_for, stands}
+use Rattle.spec_machine.specs.DutyMoves.{own_duty, own_strike, strike_told}
+use Rattle.spec_machine.specs.Steps.{member, strike_by}
 use Rattle.domain_core.specs.declared.standing.Standing.{Standing}
 use Rattle.domain_core.specs.declared.standing.Standing.TheVariants as standing
 use Rattle.domain_core.specs.declared.told.Told.{Told}

@@ -2,26 +2,26 @@
 use Rattle.std.proofs.Common.{◌≡◌, inl, inr, ℕ, ◌<◌, ◌≤◌, true, false, List, ◌∷◌, length, Some, refl, ap, ◌∙◌, subst, arith}
 use Rattle.std.specs.List.{Contains}
 use Rattle.cancel_tree.specs.Waits.{waits}
-use Rattle.row_model.specs.Contexts.{is_live}
+use Rattle.spec_parts.specs.Contexts.{is_live}
 use Rattle.script_forms.specs.Flat.{nodes_of}
-use Rattle.script_model.specs.Scripts.{Script}
-use Rattle.waiting_laws.specs.WhoWaits.{can_be_struck, contexts_of}
-use Rattle.waiting_laws.proofs.Alike.{contexts_in_step, domains_in_step}
-use Rattle.machine_model.specs.Asking.{asks_by, strike_on}
-use Rattle.machine_model.specs.Domain.{Duty, DomainState, Fiber, ForCancel, ForOthers, LooksUp, Next, Parked, Ready, Standing, fiber_at, has_ended, live_fibers}
-use Rattle.machine_model.specs.Domain as model
-use Rattle.machine_model.specs.DutyMoves.{own_duty}
-use Rattle.machine_model.specs.Labels.{Own}
-use Rattle.machine_model.specs.Moves.{asks, own_move}
-use Rattle.machine_model.specs.Preparing.{Owes, Prepared, at_once, prepared}
-use Rattle.machine_model.specs.Steps.{strike_by}
-use Rattle.domain_laws.specs.Scopes.{scopes_of}
-use Rattle.domain_laws.specs.SoundStates.{IsBuiltStanding, IsSoundState}
-use Rattle.domain_laws.proofs.Counting.{few_stand}
-use Rattle.domain_laws.proofs.EndingAlone.{fibers_run_in_live}
-use Rattle.domain_laws.proofs.Following.{ready_live}
-use Rattle.domain_laws.proofs.Lists.{contains_cases, front_apart}
-use Rattle.domain_laws.proofs.Preparing.{by_duties}
+use Rattle.spec_script.specs.Scripts.{Script}
+use Rattle.domain_strikes.specs.Waiting.WhoWaits.{can_be_struck, contexts_of}
+use Rattle.domain_strikes.proofs.Waiting.Alike.{contexts_in_step, domains_in_step}
+use Rattle.spec_machine.specs.Asking.{asks_by, strike_on}
+use Rattle.spec_machine.specs.Domain.{Duty, DomainState, Fiber, ForCancel, ForOthers, LooksUp, Next, Parked, Ready, Standing, fiber_at, has_ended, live_fibers}
+use Rattle.spec_machine.specs.Domain as model
+use Rattle.spec_machine.specs.DutyMoves.{own_duty}
+use Rattle.spec_machine.specs.Labels.{Own}
+use Rattle.spec_machine.specs.Moves.{asks, own_move}
+use Rattle.spec_machine.specs.Preparing.{Owes, Prepared, at_once, prepared}
+use Rattle.spec_machine.specs.Steps.{strike_by}
+use Rattle.law_domain.specs.Sound.Scopes.{scopes_of}
+use Rattle.law_domain.specs.Sound.SoundStates.{IsBuiltStanding, IsSoundState}
+use Rattle.law_domain.proofs.Sound.Counting.{few_stand}
+use Rattle.law_domain.proofs.Sound.EndingAlone.{fibers_run_in_live}
+use Rattle.law_domain.proofs.Sound.Following.{ready_live}
+use Rattle.law_domain.proofs.Sound.Lists.{contains_cases, front_apart}
+use Rattle.law_domain.proofs.Sound.Preparing.{by_duties}
 use Rattle.domain_core.specs.declared.told.Told.{Told}
 use Rattle.domain_core.specs.Answering.{Makes}
 use Rattle.domain_core.specs.Conditions.{MayStrike, waits_so}

@@ -13,22 +13,22 @@ use Rattle.eio_value.specs.declared.mock_call.Extra.{Extra}
 use Rattle.eio_value.specs.declared.mock_call.MockCall.{MockCall}
 use Rattle.eio_value.specs.Fitting.{Bounds, Submit, FitsMessage}
 use Rattle.eio_value.specs.Waits.{Open, IsForOpen}
-use Rattle.row_model.specs.ReadyList.{pop}
+use Rattle.spec_parts.specs.ReadyList.{pop}
 use Rattle.script_forms.specs.Flat.{nodes_of}
-use Rattle.script_model.specs.Scripts.{Script}
-use Rattle.trace_out.specs.declared.line.Did.{Did}
-use Rattle.trace_out.specs.declared.line.Line.{Line}
-use Rattle.trace_out.specs.declared.line.Said2.{Said2}
-use Rattle.machine_model.specs.Asking.{asks_by}
-use Rattle.machine_model.specs.Domain.{Duty, DomainState}
-use Rattle.machine_model.specs.Labels.{Inner, Idle}
-use Rattle.machine_model.specs.Moves.{asks, after, line_of, own_move}
-use Rattle.machine_model.specs.Preparing.{Rests, Ticks, Prepared, prepared, at_once}
-use Rattle.machine_model.specs.Runs.{Noted, DomainMoves}
-use Rattle.domain_laws.specs.SoundStates.{IsSoundState}
-use Rattle.domain_laws.proofs.Preparing.{by_duties, by_ready}
-use Rattle.well_laws.specs.WellStates.{IsRunnable}
-use Rattle.well_laws.proofs.Standing.{keeps_well}
+use Rattle.spec_script.specs.Scripts.{Script}
+use Rattle.trace_lines.specs.declared.line.Did.{Did}
+use Rattle.trace_lines.specs.declared.line.Line.{Line}
+use Rattle.trace_lines.specs.declared.line.Said2.{Said2}
+use Rattle.spec_machine.specs.Asking.{asks_by}
+use Rattle.spec_machine.specs.Domain.{Duty, DomainState}
+use Rattle.spec_machine.specs.Labels.{Inner, Idle}
+use Rattle.spec_machine.specs.Moves.{asks, after, line_of, own_move}
+use Rattle.spec_machine.specs.Preparing.{Rests, Ticks, Prepared, prepared, at_once}
+use Rattle.spec_machine.specs.Runs.{Noted, DomainMoves}
+use Rattle.law_domain.specs.Sound.SoundStates.{IsSoundState}
+use Rattle.law_domain.proofs.Sound.Preparing.{by_duties, by_ready}
+use Rattle.law_domain.specs.Well.WellStates.{IsRunnable}
+use Rattle.law_domain.proofs.Well.Standing.{keeps_well}
 use Rattle.domain_core.specs.declared.told.Told.{Told}
 use Rattle.domain_core.specs.declared.turn.Turn.TheVariants.{Moved}
 use Rattle.domain_core.specs.Answering.{SameCounts}

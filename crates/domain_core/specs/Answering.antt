@@ -7,23 +7,23 @@ use Rattle.eio_value.specs.declared.value.Value.{Value}
 use Rattle.eio_value.specs.declared.value.Value.TheVariants as value
 use Rattle.fiber_step.specs.declared.ask.Ask.{Ask}
 use Rattle.fiber_step.specs.Standing.{ask_of}
-use Rattle.machine_model.specs.ContextMoves.{before_block}
-use Rattle.machine_model.specs.Domain.{OfSwitch, DomainState, GoesOn, fiber_at, made, moved_to, placed, to_head}
-use Rattle.machine_model.specs.GroupMoves.{branched, numbers_from}
-use Rattle.machine_model.specs.Moves.{own_call}
-use Rattle.machine_model.specs.Steps.{Step, counted, member}
-use Rattle.machine_model.specs.SwitchMoves.{closed_by, with_switch_at}
-use Rattle.row_model.specs.Groups.{GroupKind, gathered}
-use Rattle.row_model.specs.Switches.{Switch, Closed, attach, close_step, switch_at}
+use Rattle.spec_machine.specs.ContextMoves.{before_block}
+use Rattle.spec_machine.specs.Domain.{OfSwitch, DomainState, GoesOn, fiber_at, made, moved_to, placed, to_head}
+use Rattle.spec_machine.specs.GroupMoves.{branched, numbers_from}
+use Rattle.spec_machine.specs.Moves.{own_call}
+use Rattle.spec_machine.specs.Steps.{Step, counted, member}
+use Rattle.spec_machine.specs.SwitchMoves.{closed_by, with_switch_at}
+use Rattle.spec_parts.specs.Groups.{GroupKind, gathered}
+use Rattle.spec_parts.specs.Switches.{Switch, Closed, attach, close_step, switch_at}
 use Rattle.script_forms.specs.Flat.{nodes_of}
 use Rattle.script_code.specs.Standing.{block_at}
 use Rattle.script_forms.specs.declared.node.Forking.{Forking}
 use Rattle.script_forms.specs.declared.node.Forking.TheVariants as forking
 use Rattle.script_forms.specs.declared.node.Node.{Node}
-use Rattle.script_model.specs.Scripts.{Script}
-use Rattle.step_model.specs.Asks as asks
-use Rattle.step_model.specs.Asks.{Ask as Called}
-use Rattle.step_model.specs.Replies.{begun}
+use Rattle.spec_script.specs.Scripts.{Script}
+use Rattle.spec_fiber.specs.Asks as asks
+use Rattle.spec_fiber.specs.Asks.{Ask as Called}
+use Rattle.spec_fiber.specs.Replies.{begun}
 use Rattle.domain_core.specs.declared.told.Told.{Told}
 use Rattle.domain_core.specs.Keeping.{KeptDomain}
 use Rattle.domain_core.specs.Mirrors.{Mirrors}

@@ -1,20 +1,20 @@
 -- What the methods of a domain ask, in the words of what is kept.
 use Rattle.std.specs.Prelude.{◌≡◌, ◌≢◌, ℕ, ◌+◌, ◌<◌, ◌≤◌, ◌⊎◌, Bool, true, false, is_some, [], length, Option, Some}
 use Rattle.std.specs.List.{Contains}
-use Rattle.block_laws.specs.Beginnings.{BeginsBlock}
+use Rattle.fiber_step.specs.Blocks.Beginnings.{BeginsBlock}
 use Rattle.cancel_tree.specs.Endings.{HasNoLiveChild}
 use Rattle.cancel_tree.specs.Waits.{waits, waits_in}
-use Rattle.domain_kinds.specs.KindedStates.{handlers_of}
-use Rattle.domain_laws.specs.SoundStates.{attached_to, own_branches}
+use Rattle.law_domain.specs.Kinded.KindedStates.{handlers_of}
+use Rattle.law_domain.specs.Sound.SoundStates.{attached_to, own_branches}
 use Rattle.eio_value.specs.declared.raised.Outcome.{Outcome}
 use Rattle.eio_value.specs.declared.raised.Raised.{Raised}
-use Rattle.machine_model.specs.Domain.{Role, OfBody, OfSwitch, OfGroup, ForCancel, ForOthers, Standing, Ready, Parked, Ended}
-use Rattle.machine_model.specs.Steps.{can_be_cancelled}
-use Rattle.row_model.specs.Contexts.{is_live}
-use Rattle.row_model.specs.Groups.{group_at}
-use Rattle.row_model.specs.Switches.{Handler, switch_at}
-use Rattle.script_model.specs.Scripts.{Script}
-use Rattle.step_model.specs.Asks.{Ask}
+use Rattle.spec_machine.specs.Domain.{Role, OfBody, OfSwitch, OfGroup, ForCancel, ForOthers, Standing, Ready, Parked, Ended}
+use Rattle.spec_machine.specs.Steps.{can_be_cancelled}
+use Rattle.spec_parts.specs.Contexts.{is_live}
+use Rattle.spec_parts.specs.Groups.{group_at}
+use Rattle.spec_parts.specs.Switches.{Handler, switch_at}
+use Rattle.spec_script.specs.Scripts.{Script}
+use Rattle.spec_fiber.specs.Asks.{Ask}
 use Rattle.switch_core.specs.Attaching.{IsAttached}
 use Rattle.domain_core.specs.Answering.{SameFibers}
 use Rattle.domain_core.specs.Keeping.{KeptFiber, KeptDomain, kept_at}

@@ -3,12 +3,12 @@ use Rattle.std.specs.Prelude.{ℕ, Bool, List, slice_get, slice_set, Option, Non
 use Rattle.std.specs.Option.{option_map, unwrap_or}
 use Rattle.eio_value.specs.declared.raised.Outcome.{Outcome}
 use Rattle.eio_value.specs.declared.raised.Outcome.TheVariants as outcome
-use Rattle.row_model.specs.ContextCalls.{Contexts}
-use Rattle.row_model.specs.Groups.{Group}
-use Rattle.row_model.specs.Switches.{Switch}
+use Rattle.spec_parts.specs.ContextCalls.{Contexts}
+use Rattle.spec_parts.specs.Groups.{Group}
+use Rattle.spec_parts.specs.Switches.{Switch}
 use Rattle.eio_value.specs.declared.value.Value.TheVariants.{Unit}
 use Rattle.fiber_step.specs.Kept.{Kept}
-use Rattle.machine_model.specs.Domain.{Duty, Role, Standing, Ready, GoesOn}
+use Rattle.spec_machine.specs.Domain.{Duty, Role, Standing, Ready, GoesOn}
 
 -- a fiber that hasn't ended
 pub record KeptFiber : Type 0 where

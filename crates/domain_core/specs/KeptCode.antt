@@ -2,7 +2,7 @@
 use Rattle.std.specs.Prelude.{ℕ, List, [], ◌∷◌, map, Option}
 use Rattle.std.proofs.Common.{ap}
 use Rattle.std.specs.Coded.{Coded, code_by, codes}
-use Rattle.script_model.specs.Syntax.{Block, Begins, Done}
+use Rattle.spec_script.specs.Syntax.{Block, Begins, Done}
 use Rattle.script_forms.specs.declared.node.Node.{Node}
 use Rattle.script_forms.specs.Flat.{number_of, flat_bodies}
 use Rattle.script_code.specs.ScriptCode.{bodies_of-flat}

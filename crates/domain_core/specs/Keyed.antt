@@ -7,9 +7,9 @@ use Rattle.eio_value.specs.declared.plain.Plain.TheVariants as plain
 use Rattle.eio_value.specs.declared.raised.Outcome.TheVariants as outcome
 use Rattle.eio_value.specs.declared.raised.Raised.{Raised}
 use Rattle.eio_value.specs.declared.raised.Raised.TheVariants as raised
-use Rattle.step_model.specs.Asks as ask
-use Rattle.step_model.specs.Asks.{Ask}
-use Rattle.machine_model.specs.Domain as model
+use Rattle.spec_fiber.specs.Asks as ask
+use Rattle.spec_fiber.specs.Asks.{Ask}
+use Rattle.spec_machine.specs.Domain as model
 use Rattle.domain_core.specs.declared.fiber.Fiber.{Fiber}
 use Rattle.domain_core.specs.declared.standing.Again.{Again}
 use Rattle.domain_core.specs.declared.standing.Again.TheVariants as again

@@ -5,11 +5,11 @@ use Rattle.std.specs.Prelude.{◌≡◌, ℕ, List, length, true, false, Option,
 use Rattle.script_forms.specs.declared.node.Node.{Node}
 use Rattle.fiber_step.specs.Kept.{position_of}
 use Rattle.fiber_step.specs.Placing.{ArePlaced}
-use Rattle.machine_model.specs.Domain as model
-use Rattle.machine_model.specs.Domain.{DomainState, fiber_at, has_ended}
-use Rattle.machine_model.specs.Trace.{body_end}
-use Rattle.waiting_laws.specs.InStep.{AreContexts}
-use Rattle.waiting_laws.specs.WhoWaits.{contexts_of}
+use Rattle.spec_machine.specs.Domain as model
+use Rattle.spec_machine.specs.Domain.{DomainState, fiber_at, has_ended}
+use Rattle.spec_machine.specs.Trace.{body_end}
+use Rattle.domain_strikes.specs.Waiting.InStep.{AreContexts}
+use Rattle.domain_strikes.specs.Waiting.WhoWaits.{contexts_of}
 use Rattle.domain_core.specs.Keeping.{KeptFiber, KeptDomain, kept_at}
 
 -- ## Fibers

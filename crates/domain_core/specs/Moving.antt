@@ -7,16 +7,16 @@ use Rattle.fiber_step.specs.declared.ask.Ask.{Ask}
 use Rattle.fiber_step.specs.declared.ask.Ask.TheVariants as ask
 use Rattle.fiber_step.specs.Standing.{ask_of}
 use Rattle.script_forms.specs.Flat.{nodes_of}
-use Rattle.script_model.specs.Scripts.{Script}
-use Rattle.step_model.specs.Asks.{Ask as Called}
-use Rattle.step_model.specs.Replies.{passed}
-use Rattle.step_model.specs.Work.{Carry}
-use Rattle.text_laws.specs.Domains.{IsTexted}
-use Rattle.text_laws.specs.Texts.{IsHeldOutcome, known_in}
-use Rattle.machine_model.specs.Domain.{CallsAgain, Fiber, Next, Ready, DomainState, fiber_at, off_for}
-use Rattle.machine_model.specs.Labels.{Own}
-use Rattle.machine_model.specs.Moves.{asks, own_move}
-use Rattle.machine_model.specs.Preparing.{Calls, next_call, next_of, prepared}
+use Rattle.spec_script.specs.Scripts.{Script}
+use Rattle.spec_fiber.specs.Asks.{Ask as Called}
+use Rattle.spec_fiber.specs.Replies.{passed}
+use Rattle.spec_fiber.specs.Work.{Carry}
+use Rattle.law_domain.specs.Texts.Domains.{IsTexted}
+use Rattle.law_fiber.specs.Texts.Texts.{IsHeldOutcome, known_in}
+use Rattle.spec_machine.specs.Domain.{CallsAgain, Fiber, Next, Ready, DomainState, fiber_at, off_for}
+use Rattle.spec_machine.specs.Labels.{Own}
+use Rattle.spec_machine.specs.Moves.{asks, own_move}
+use Rattle.spec_machine.specs.Preparing.{Calls, next_call, next_of, prepared}
 use Rattle.domain_core.specs.declared.told.Told.{Told}
 use Rattle.domain_core.specs.Answering.{HoldsOf, Tells, forking_by}
 use Rattle.domain_core.specs.Conditions.{HandlersBegin, HasLiveContexts, HasRoomForParked, IsAttachedToNone, IsAwake, MayClose, MayEnd, MayEndContext, MayJoin, RunsInLive}

@@ -3,10 +3,10 @@ use Rattle.std.specs.Prelude.{◌≡◌, ℕ, List, [], ◌∷◌, Option, Some}
 use Rattle.fiber_step.specs.Kept.{Kept, position_of}
 use Rattle.fiber_step.specs.Placing.{ArePlaced}
 use Rattle.script_forms.specs.Flat.{nodes_of}
-use Rattle.script_model.specs.Scripts.{Script}
-use Rattle.step_model.specs.Replies.{begun}
-use Rattle.machine_model.specs.Domain.{OfBody}
-use Rattle.domain_laws.specs.Laws.{body_of}
+use Rattle.spec_script.specs.Scripts.{Script}
+use Rattle.spec_fiber.specs.Replies.{begun}
+use Rattle.spec_machine.specs.Domain.{OfBody}
+use Rattle.law_domain.specs.Sound.Laws.{body_of}
 use Rattle.domain_core.specs.Keeping.{KeptFiber, new_fiber}
 
 -- there is one fiber, which stands before its body in this context

@@ -11,19 +11,19 @@ use Rattle.eio_value.specs.declared.mock_call.Extra.{Extra}
 use Rattle.eio_value.specs.declared.mock_call.MockCall.{MockCall}
 use Rattle.eio_value.specs.Waits.{struck_stamp}
 use Rattle.script_forms.specs.Flat.{nodes_of}
-use Rattle.script_model.specs.Opening.{opening_texts}
-use Rattle.script_model.specs.Scripts.{Script}
-use Rattle.trace_out.specs.declared.line.Line.{Line}
-use Rattle.machine_model.specs.Domain.{Duty, DomainState}
-use Rattle.machine_model.specs.Labels.{Label, Inner, Called, Struck as WasStruck, Mocked, Took, Idle as AsksNothing}
-use Rattle.machine_model.specs.Mock.{opening_domain}
-use Rattle.machine_model.specs.Moves.{asks}
-use Rattle.machine_model.specs.Preparing.{prepared}
-use Rattle.machine_model.specs.Runs.{DomainMoves, message_stamp}
+use Rattle.spec_script.specs.Opening.{opening_texts}
+use Rattle.spec_script.specs.Scripts.{Script}
+use Rattle.trace_lines.specs.declared.line.Line.{Line}
+use Rattle.spec_machine.specs.Domain.{Duty, DomainState}
+use Rattle.spec_machine.specs.Labels.{Label, Inner, Called, Struck as WasStruck, Mocked, Took, Idle as AsksNothing}
+use Rattle.spec_machine.specs.Mock.{opening_domain}
+use Rattle.spec_machine.specs.Moves.{asks}
+use Rattle.spec_machine.specs.Preparing.{prepared}
+use Rattle.spec_machine.specs.Runs.{DomainMoves, message_stamp}
 use Rattle.domain_core.specs.declared.turn.Turn.{Turn}
 use Rattle.domain_core.specs.declared.turn.Turn.TheVariants.{Moved, Idle, Spent, Halted}
-use Rattle.domain_laws.specs.Laws.{body_of}
-use Rattle.well_laws.specs.WellStates.{StandsWell}
+use Rattle.law_domain.specs.Sound.Laws.{body_of}
+use Rattle.law_domain.specs.Well.WellStates.{StandsWell}
 use Rattle.fiber_step.specs.Throwing.{IsGrown}
 use Rattle.domain_core.specs.Keeping.{KeptDomain}
 use Rattle.domain_core.specs.Mirrors.{Mirrors}

@@ -2,8 +2,8 @@
 //! back, or waits; or a limit is met. Each is the step of the definitions (`Makes`).
 
 ghost use Rattle.std.specs.Prelude.{◌≡◌, ◌<◌, length, OnOk};
-ghost use Rattle.machine_model.specs.Domain.{ForOthers};
-ghost use Rattle.machine_model.specs.Steps as steps;
+ghost use Rattle.spec_machine.specs.Domain.{ForOthers};
+ghost use Rattle.spec_machine.specs.Steps as steps;
 ghost use Rattle.domain_core.specs.Answering.{Makes, SameCounts};
 ghost use Rattle.domain_core.specs.Conditions.{IsAwake};
 ghost use Rattle.domain_core.specs.Keyed.{call_of};
@@ -12,7 +12,7 @@ use crate::domain::Domain;
 use crate::standing::{Again, Next, Standing};
 use crate::told::Told;
 use eio_value::{NoMemory, Plain, Raised, Value};
-use trace_out::{Did, Said2};
+use trace_lines::{Did, Said2};
 
 impl Domain {
     /// The move in the place of a call that would pass a limit: the domain is halted.

@@ -4,7 +4,7 @@
 
 ghost use Rattle.std.specs.Prelude.{◌≡◌, ◌<◌, false, length, OnOk};
 ghost use Rattle.cancel_tree.specs.Waits.{waits};
-ghost use Rattle.script_model.specs.Scripts.{Script as Read};
+ghost use Rattle.spec_script.specs.Scripts.{Script as Read};
 ghost use Rattle.domain_core.specs.Answering.{Answers, SameCounts};
 ghost use Rattle.domain_core.specs.Conditions.{IsAwake, RunsInLive};
 
@@ -13,7 +13,7 @@ use crate::standing::{Next, Standing};
 use crate::told::Told;
 use eio_value::{NoMemory, Operands, Value};
 use fiber_step::Ask;
-use trace_out::{Did, Said2};
+use trace_lines::{Did, Said2};
 
 impl Domain {
     /// `trace`.

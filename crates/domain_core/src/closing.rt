@@ -2,14 +2,14 @@
 //! switch and no handler is left.
 
 ghost use Rattle.std.specs.Prelude.{◌≡◌, ◌<◌, ◌-◌, ◌^◌, [], length, Contains, OnOk};
-ghost use Rattle.block_laws.specs.Beginnings.{BeginsBlock};
-ghost use Rattle.domain_kinds.specs.KindedStates.{handlers_of};
+ghost use Rattle.fiber_step.specs.Blocks.Beginnings.{BeginsBlock};
+ghost use Rattle.law_domain.specs.Kinded.KindedStates.{handlers_of};
 ghost use Rattle.eio_value.specs.declared.raised.Outcome.TheVariants as outcome;
-ghost use Rattle.machine_model.specs.SwitchMoves.{runs};
-ghost use Rattle.row_model.specs.Switches.{switch_at};
+ghost use Rattle.spec_machine.specs.SwitchMoves.{runs};
+ghost use Rattle.spec_parts.specs.Switches.{switch_at};
 ghost use Rattle.script_forms.specs.Flat.{nodes_of};
-ghost use Rattle.step_model.specs.Asks as asks;
-ghost use Rattle.strike_queue.specs.Owing.{StrikesAtOnce};
+ghost use Rattle.spec_fiber.specs.Asks as asks;
+ghost use Rattle.domain_strikes.specs.Owing.{StrikesAtOnce};
 ghost use Rattle.domain_core.specs.Answering.{Answers, MakesUnder, SameCounts, closes_on};
 ghost use Rattle.domain_core.specs.Conditions.{HandlersBegin, IsAwake, MayClose, RunsInLive};
 ghost use Rattle.domain_core.specs.Stepping.{IsPlacedAt};
@@ -21,7 +21,7 @@ use eio_value::{NoMemory, Plain, Raised, Value};
 use fiber_step::{Ask, Variables};
 use script_code::Script;
 use switch_core::{CloseStep, Handler};
-use trace_out::{Did, Said2};
+use trace_lines::{Did, Said2};
 
 impl Domain {
     /// `close`: an exception that came is given to the switch first. Then the fiber waits for those that are attached, the daemons last, which it

@@ -3,7 +3,7 @@
 ghost use Rattle.std.specs.Prelude.{◌≡◌, ◌<◌, ◌-◌, ◌^◌, [], length, OnOk};
 ghost use Rattle.fiber_step.specs.Having.{HasStatements};
 ghost use Rattle.script_forms.specs.Flat.{nodes_of};
-ghost use Rattle.script_model.specs.Scripts.{Script as Read};
+ghost use Rattle.spec_script.specs.Scripts.{Script as Read};
 ghost use Rattle.domain_core.specs.Answering.{Answers, SameCounts};
 ghost use Rattle.domain_core.specs.Conditions.{IsAwake, MayEndContext, RunsInLive};
 ghost use Rattle.domain_core.specs.Stepping.{IsPlacedAt};
@@ -14,7 +14,7 @@ use crate::told::Told;
 use eio_value::{Misuse, NoMemory, Outcome, Plain, TextId, Value};
 use fiber_step::Ask;
 use script_code::Script;
-use trace_out::{Did, Said2};
+use trace_lines::{Did, Said2};
 
 impl Domain {
     /// `sub`: the fiber goes into the block in a new context, unless its own is off.

@@ -4,11 +4,11 @@
 //! turn is the contract of [`Domain::turn`].
 
 ghost use Rattle.std.specs.Prelude.{◌≡◌, ◌<◌, ◌≤◌, ℕ, List, [], IfOk, length};
-ghost use Rattle.machine_model.specs.Mock as mock;
-ghost use Rattle.machine_model.specs.Trace as trace;
-ghost use Rattle.machine_model.specs.Domain.{DomainState};
+ghost use Rattle.spec_machine.specs.Mock as mock;
+ghost use Rattle.spec_machine.specs.Trace as trace;
+ghost use Rattle.spec_machine.specs.Domain.{DomainState};
 ghost use Rattle.script_forms.specs.declared.node.Node.{Node};
-ghost use Rattle.well_laws.specs.WellStates.{IsRunnable};
+ghost use Rattle.law_domain.specs.Well.WellStates.{IsRunnable};
 ghost use Rattle.domain_core.specs.Mirrors.{Mirrors};
 ghost use Rattle.domain_core.specs.Turns.{Starts};
 
@@ -20,7 +20,7 @@ use run_queue::Ready;
 use script_code::Script;
 use std::alloc::Global;
 use std::marker::Model;
-use strike_queue::Strikes;
+use domain_strikes::Strikes;
 use switch_core::Switches;
 
 /// One domain of fibers.

@@ -1,10 +1,10 @@
 //! The end of a fiber.
 
 ghost use Rattle.std.specs.Prelude.{◌≡◌, ◌<◌, ℕ, [], length};
-ghost use Rattle.machine_model.specs.Steps.{reply_of};
-ghost use Rattle.machine_model.specs.SwitchMoves.{detached, given_up};
-ghost use Rattle.row_model.specs.Switches.{switch_at};
-ghost use Rattle.script_model.specs.Scripts.{Script as Read};
+ghost use Rattle.spec_machine.specs.Steps.{reply_of};
+ghost use Rattle.spec_machine.specs.SwitchMoves.{detached, given_up};
+ghost use Rattle.spec_parts.specs.Switches.{switch_at};
+ghost use Rattle.spec_script.specs.Scripts.{Script as Read};
 ghost use Rattle.switch_core.specs.Attaching.{IsAttached};
 ghost use Rattle.domain_core.specs.Answering.{Answers, Becomes, SameCounts};
 ghost use Rattle.domain_core.specs.Conditions.{IsAwake, LeavesScopes, MayEnd};
@@ -14,7 +14,7 @@ use crate::standing::Role;
 use crate::told::Told;
 use eio_value::{Outcome, Raised};
 use fiber_step::Ask;
-use trace_out::{Did, Said2};
+use trace_lines::{Did, Said2};
 
 impl Domain {
     /// The end of a fiber. That of the body ends its context; a fiber of a switch leaves that, which gets what it raised; and a branch leaves its

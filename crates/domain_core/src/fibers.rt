@@ -9,7 +9,7 @@ ghost use Rattle.std.specs.Prelude.{◌≡◌, ◌<◌, ◌≤◌, ◌-◌, ◌^
 ghost use Rattle.std.specs.Option.{option_map, option_and_then, option_copied};
 ghost use Rattle.eio_value.specs.declared.raised.Outcome.TheVariants as outcome;
 ghost use Rattle.eio_value.specs.declared.raised.Raised.{Raised as Thrown};
-ghost use Rattle.machine_model.specs.Domain as model;
+ghost use Rattle.spec_machine.specs.Domain as model;
 ghost use Rattle.slab.specs.Slab.{ContainsKey};
 ghost use Rattle.domain_core.specs.Keeping.{kept_at, new_fiber, changed_at};
 ghost use Rattle.domain_core.specs.Keyed.{HasKey, IsWithout, role_of, standing_of, plain_standing, fiber_of, thrown_under, raised_of};

@@ -2,21 +2,21 @@
 
 ghost use Rattle.std.specs.Prelude.{◌≡◌, ◌<◌, ◌+◌, ◌-◌, ◌≤◌, ◌^◌, ◌++◌, ◌∷◌, ℕ, List, [], Some, length, count_by, is_some, IfOk, OnOk};
 ghost use Rattle.std.specs.List.{AllByRecursion as Each};
-ghost use Rattle.domain_laws.specs.SoundStates.{own_branches};
+ghost use Rattle.law_domain.specs.Sound.SoundStates.{own_branches};
 ghost use Rattle.fiber_step.specs.Entering.{HasBranches};
 ghost use Rattle.fiber_step.specs.Having.{HasStatements};
 ghost use Rattle.fiber_step.specs.Stepping.{HasBranchBodies};
 ghost use Rattle.group_core.specs.Kinds.{kind_of as kind_in};
-ghost use Rattle.machine_model.specs.Domain.{OfGroup, fiber_at, made};
-ghost use Rattle.machine_model.specs.GroupMoves as groups;
-ghost use Rattle.machine_model.specs.GroupMoves.{branch_ended, own_ended};
-ghost use Rattle.row_model.specs.Groups.{group_at};
+ghost use Rattle.spec_machine.specs.Domain.{OfGroup, fiber_at, made};
+ghost use Rattle.spec_machine.specs.GroupMoves as groups;
+ghost use Rattle.spec_machine.specs.GroupMoves.{branch_ended, own_ended};
+ghost use Rattle.spec_parts.specs.Groups.{group_at};
 ghost use Rattle.script_forms.specs.Calls.{group_of};
 ghost use Rattle.script_forms.specs.Flat.{nodes_of};
 ghost use Rattle.script_code.specs.Standing.{block_at};
 ghost use Rattle.script_forms.specs.declared.node.Node.{Node as Begun};
-ghost use Rattle.script_model.specs.Scripts.{Script as Read};
-ghost use Rattle.step_model.specs.Replies.{begun};
+ghost use Rattle.spec_script.specs.Scripts.{Script as Read};
+ghost use Rattle.spec_fiber.specs.Replies.{begun};
 ghost use Rattle.domain_core.specs.Answering.{Answers, Becomes, BecomesUnder, SameCounts, SameFibers, gathers, heads_with};
 ghost use Rattle.domain_core.specs.Conditions.{HasRoomForParked, IsAwake, LeavesGroups, MayEndContext, MayJoin, RunsInLive};
 ghost use Rattle.domain_core.specs.Keeping.{KeptFiber};
@@ -31,7 +31,7 @@ use fiber_step::{Ask, Fiber as Frames, Variables, branch_bodies};
 use group_core::{GroupKind, JoinStep};
 use script_code::Script;
 use script_forms::Group;
-use trace_out::{Did, Said2};
+use trace_lines::{Did, Said2};
 
 impl Domain {
     /// `both`, `all`, `first` or `any`: a fiber for each branch but the last, which the caller runs, all in one new context; unless the

@@ -2,11 +2,11 @@
 //!
 //! A [`Domain`] is proved once over any [`Extras`](eio_value::Extras): plain objects of a mocked domain, or those that domains
 //! on threads share. What it keeps stands for a domain of the definitions (`StandsFor`, specs/Turns), and one
-//! [`Domain::turn`] is one of its moves (`DomainMoves` of `machine_model`), with the calls on the objects by which it came, in order, and
+//! [`Domain::turn`] is one of its moves (`DomainMoves` of `spec_machine`), with the calls on the objects by which it came, in order, and
 //! their answers (`Turns`). Fibers and contexts that have ended are forgotten.
 //!
-//! Built are the forms of exceptions, cancellation, switches and groups (`HasBuiltForms` of `domain_laws`). What holds between two moves of such a
-//! script is `StandsWell` of `well_laws`, and that each move keeps it is a law of the definitions; the calls of fibers rest on what follows
+//! Built are the forms of exceptions, cancellation, switches and groups (`HasBuiltForms` of `law_domain`). What holds between two moves of such a
+//! script is `StandsWell` of `law_domain`, and that each move keeps it is a law of the definitions; the calls of fibers rest on what follows
 //! from it (`specs/Conditions`).
 #![tactic(auto)]
 

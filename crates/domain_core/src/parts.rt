@@ -3,14 +3,14 @@
 
 ghost use Rattle.std.specs.Prelude.{◌≡◌, ◌⊎◌, ◌<◌, ◌+◌, ◌-◌, ◌^◌, ◌++◌, ◌∷◌, [], ℕ, length, Option, Some, None, IfOk, OnOk, IfSome, IfNone};
 ghost use Rattle.eio_value.specs.declared.raised.Outcome.TheVariants as outcome;
-ghost use Rattle.machine_model.specs.ContextMoves.{leaves, sub_of, protected_of};
-ghost use Rattle.machine_model.specs.Domain as model;
-ghost use Rattle.machine_model.specs.Domain.{to_head, to_back, off_for};
-ghost use Rattle.machine_model.specs.Steps.{cancels};
-ghost use Rattle.machine_model.specs.SwitchMoves.{fails, fails_with, woken_if};
-ghost use Rattle.strike_queue.specs.Owing.{StrikesAtOnce};
-ghost use Rattle.row_model.specs.ContextCalls.{Cancel, called};
-ghost use Rattle.row_model.specs.Switches.{switch_at};
+ghost use Rattle.spec_machine.specs.ContextMoves.{leaves, sub_of, protected_of};
+ghost use Rattle.spec_machine.specs.Domain as model;
+ghost use Rattle.spec_machine.specs.Domain.{to_head, to_back, off_for};
+ghost use Rattle.spec_machine.specs.Steps.{cancels};
+ghost use Rattle.spec_machine.specs.SwitchMoves.{fails, fails_with, woken_if};
+ghost use Rattle.domain_strikes.specs.Owing.{StrikesAtOnce};
+ghost use Rattle.spec_parts.specs.ContextCalls.{Cancel, called};
+ghost use Rattle.spec_parts.specs.Switches.{switch_at};
 ghost use Rattle.domain_core.specs.Answering.{Becomes, BecomesUnder, HoldsOf, Raises, SameCounts, SameFibers, enters_block};
 ghost use Rattle.domain_core.specs.Conditions.{IsAwake, IsParked, LeavesScopes, MayEndContext, RunsInLive};
 ghost use Rattle.domain_core.specs.Keyed.{next_of};

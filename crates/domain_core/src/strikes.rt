@@ -1,8 +1,8 @@
 //! The strikes that a domain owes for its cancellations, which it makes before anything else.
 
 ghost use Rattle.std.specs.Prelude.{◌≡◌, ◌≢◌, true, false, Some, OnOk};
-ghost use Rattle.machine_model.specs.DutyMoves.{own_duty};
-ghost use Rattle.machine_model.specs.Steps.{strike_by};
+ghost use Rattle.spec_machine.specs.DutyMoves.{own_duty};
+ghost use Rattle.spec_machine.specs.Steps.{strike_by};
 ghost use Rattle.domain_core.specs.Answering.{Makes, SameCounts};
 ghost use Rattle.domain_core.specs.Conditions.{MayStrike};
 
@@ -10,8 +10,8 @@ use crate::domain::Domain;
 use crate::standing::Standing;
 use crate::told::Told;
 use eio_value::{NoMemory, Plain, Raised};
-use strike_queue::Strike;
-use trace_out::{Did, Said2};
+use domain_strikes::Strike;
+use trace_lines::{Did, Said2};
 
 impl Domain {
     /// A strike: a fiber that waits still goes to the back of the ready list, where it raises that it was cancelled, for the reason by which its

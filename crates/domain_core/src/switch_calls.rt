@@ -1,13 +1,13 @@
 //! The calls on switches, but for `close`: `switch`, forks, `fail` and `on-release`.
 
 ghost use Rattle.std.specs.Prelude.{◌≡◌, ◌<◌, ◌+◌, ◌-◌, ◌≤◌, ◌^◌, ℕ, List, [], false, length, count_by, is_some, IfOk, OnOk};
-ghost use Rattle.row_model.specs.Switches.{switch_at, refuses_fibers, refuses_forks};
+ghost use Rattle.spec_parts.specs.Switches.{switch_at, refuses_fibers, refuses_forks};
 ghost use Rattle.fiber_step.specs.Having.{HasStatements};
-ghost use Rattle.machine_model.specs.SwitchMoves.{did_fork as did_of};
+ghost use Rattle.spec_machine.specs.SwitchMoves.{did_fork as did_of};
 ghost use Rattle.script_forms.specs.Calls.{forking_of};
 ghost use Rattle.script_forms.specs.Flat.{nodes_of};
 ghost use Rattle.script_forms.specs.declared.node.Node.{Node as Begun};
-ghost use Rattle.script_model.specs.Scripts.{Script as Read};
+ghost use Rattle.spec_script.specs.Scripts.{Script as Read};
 ghost use Rattle.domain_core.specs.Answering.{Answers, Becomes, BecomesUnder, SameCounts, SameFibers, forking_by, forks, registers};
 ghost use Rattle.domain_core.specs.Conditions.{HasLiveContexts, IsAttachedToNone, IsAwake, RunsInLive};
 ghost use Rattle.domain_core.specs.Stepping.{IsPlacedAt};
@@ -21,7 +21,7 @@ use fiber_step::{Ask, Fiber as Frames, Variables};
 use script_code::Script;
 use script_forms::Forking;
 use switch_core::{Handler, Variables as Registered};
-use trace_out::{Did, Said2};
+use trace_lines::{Did, Said2};
 
 impl Domain {
     /// `switch`: the fiber goes into the block of a new switch, in a new context, unless its own is off.

@@ -1,6 +1,6 @@
 //! What a move tells, before it has its stamp. It is large, so that calls write it in its place and don't hand it on.
 
-use trace_out::{Did, Said2};
+use trace_lines::{Did, Said2};
 
 /// The fiber that called, what it did, and what it was answered.
 #[derive(Clone, Copy)]

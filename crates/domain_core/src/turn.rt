@@ -6,10 +6,10 @@
 ghost use Rattle.std.specs.Prelude.{◌≡◌, ◌≢◌, ◌<◌, ◌+◌, ◌≤◌, ◌-◌, ◌^◌, List, [], false, length, IfOk, OnOk, IfSome, IfNone};
 ghost use Rattle.fiber_step.specs.Standing.{ask_of};
 ghost use Rattle.fiber_step.specs.Stepping.{HasBodiesOf};
-ghost use Rattle.machine_model.specs.Domain.{DomainState};
+ghost use Rattle.spec_machine.specs.Domain.{DomainState};
 ghost use Rattle.script_forms.specs.Flat.{nodes_of};
 ghost use Rattle.script_forms.specs.declared.node.Node.{Node};
-ghost use Rattle.well_laws.specs.WellStates.{IsRunnable};
+ghost use Rattle.law_domain.specs.Well.WellStates.{IsRunnable};
 ghost use Rattle.domain_core.specs.Answering.{Answers, SameCounts};
 ghost use Rattle.domain_core.specs.Conditions.{RunsInLive};
 ghost use Rattle.domain_core.specs.Keyed.{call_of};
@@ -24,7 +24,7 @@ use eio_value::{Extras, NoMemory, Outcome, Plain, Raised, Texts, Value};
 use fiber_step::Ask;
 use script_code::Script;
 use script_forms::Forking;
-use trace_out::Line;
+use trace_lines::Line;
 
 /// What a turn of a domain came to.
 #[derive(Clone, Copy)]

@@ -2,18 +2,18 @@
 use Rattle.std.proofs.Common.{◌≡◌, ℕ, List, Some, None, IfSome, refl, ap, sym, subst, ◌∙◌}
 use Rattle.std.specs.Prelude.{Option}
 use Rattle.trace_out.specs.Outcome.{CanCome, Due, WritesFor}
-use Rattle.trace_out.specs.declared.status.Status.{Status}
-use Rattle.trace_out.specs.declared.status.Status.TheVariants as status
-use Rattle.script_model.specs.declared.Command.{Command}
-use Rattle.script_model.specs.declared.Command.TheVariants as command
-use Rattle.script_model.specs.Features.{Built}
-use Rattle.script_model.specs.Inputs.{answered, checked_for}
-use Rattle.script_model.specs.Words.{meaning}
+use Rattle.trace_lines.specs.declared.status.Status.{Status}
+use Rattle.trace_lines.specs.declared.status.Status.TheVariants as status
+use Rattle.spec_script.specs.declared.Command.{Command}
+use Rattle.spec_script.specs.declared.Command.TheVariants as command
+use Rattle.spec_script.specs.Features.{Built}
+use Rattle.spec_script.specs.Inputs.{answered, checked_for}
+use Rattle.spec_script.specs.Words.{meaning}
 use Rattle.script_input.specs.declared.inspection.Inspection.TheVariants as inspection
 use Rattle.script_input.specs.Inspections.{inspected}
 use Rattle.script_input.specs.Inspections as inspections
-use Rattle.machine_model.specs.Answers.{mocked}
-use Rattle.machine_model.specs.Domain.{DomainState}
+use Rattle.spec_machine.specs.Answers.{mocked}
+use Rattle.spec_machine.specs.Domain.{DomainState}
 use Rattle.mock_backend.specs.Causes.{ComesExactlyOf, RunsTo}
 use Rattle.mock_backend.specs.Due.{due}
 use Rattle.eio_run.specs.Answers.{CanComeOf, MockRunsTo, due_by, due_to, Writes}

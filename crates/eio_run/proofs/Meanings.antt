@@ -5,13 +5,13 @@ use Rattle.std.proofs.lemmas.Grind.{common_steps}
 use Rattle.std.proofs.lemmas.Slice.Eq.{bytes_eq-Decides}
 use Rattle.std.specs.Prelude.{Option, if◌then◌else◌}
 use Rattle.std.specs.Str.{bytes_eq}
-use Rattle.script_model.specs.declared.Command.{Command}
-use Rattle.script_model.specs.declared.Command.TheVariants as command
-use Rattle.script_model.specs.declared.Feature.TheVariants as feature
-use Rattle.script_model.specs.Features.{is_built}
-use Rattle.script_model.specs.Limits.{most_lines, most_load}
+use Rattle.spec_script.specs.declared.Command.{Command}
+use Rattle.spec_script.specs.declared.Command.TheVariants as command
+use Rattle.spec_script.specs.declared.Feature.TheVariants as feature
+use Rattle.spec_script.specs.Features.{is_built}
+use Rattle.spec_script.specs.Limits.{most_lines, most_load}
 use Rattle.mock_backend.specs.Today.{built_today}
-use Rattle.script_model.specs.Words.{Asked, asked, asks_number, number_of, option_value, mock_words, domains_words, lone_word, load_words, meaning}
+use Rattle.spec_script.specs.Words.{Asked, asked, asks_number, number_of, option_value, mock_words, domains_words, lone_word, load_words, meaning}
 use Rattle.eio_run.specs.Words.{only_if, if_built}
 
 -- the first of some words and the others

@@ -21,10 +21,10 @@ use Rattle.clap.specs.Walk.{Text, Walk, finished, first_of, idle, nothing_held, 
 use Rattle.clap.specs.Words.{IsAmong}
 use Rattle.clap.specs.declared.error.kind.ErrorKind.{ErrorKind}
 use Rattle.clap.specs.declared.error.kind.ErrorKind.TheVariants as kind
-use Rattle.script_model.specs.Limits.{most_steps}
-use Rattle.script_model.specs.Words.{Asked, asks_number, mock_words, number_of}
-use Rattle.script_model.specs.declared.Command.TheVariants as command
-use Rattle.script_model.specs.declared.Feature.TheVariants as feature
+use Rattle.spec_script.specs.Limits.{most_steps}
+use Rattle.spec_script.specs.Words.{Asked, asks_number, mock_words, number_of}
+use Rattle.spec_script.specs.declared.Command.TheVariants as command
+use Rattle.spec_script.specs.declared.Feature.TheVariants as feature
 use Rattle.eio_run.specs.Steps.{asked_with, mock_app, text_in}
 use Rattle.eio_run.proofs.Walk.{top, name_of_option, has_fault, begun, taken, waits, given, from_fault, turn, Fails, Goes, has_separator, AlwaysFails, begun_takes, begun_waits, other_long, idle_word, waits_step, taken_fails, given_fails, fails_from, along, goes_from, name_in, neither}
 

@@ -8,9 +8,9 @@ use Rattle.std.specs.List.{list_all}
 use Rattle.std.specs.Prelude.{nat_le, ◌==◌, ◌&&◌, not, if◌then◌else◌}
 use Rattle.std.specs.Result.{OkIff}
 use Rattle.std.specs.Str.Parse.{ParsesUnsigned, digits_value, digits_value_after}
-use Rattle.script_model.specs.Bytes.{is_digit}
-use Rattle.script_model.specs.Reading.{is_numeral}
-use Rattle.script_model.specs.Words.{number_of}
+use Rattle.spec_script.specs.Bytes.{is_digit}
+use Rattle.spec_script.specs.Reading.{is_numeral}
+use Rattle.spec_script.specs.Words.{number_of}
 use Rattle.eio_run.specs.Steps.{has_first_digit}
 
 digits : IsNumeralModel (λ ds. list_all is_digit ds ≡ true) (digits_value 10)

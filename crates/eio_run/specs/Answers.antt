@@ -2,15 +2,15 @@
 use Rattle.std.specs.Prelude.{ℕ, List, Option, Some, None}
 use Rattle.std.specs.Io.KnownBytes.{Keeps}
 use Rattle.trace_out.specs.Outcome.{CanCome, Due, WritesFor}
-use Rattle.trace_out.specs.declared.status.Status.{Status}
-use Rattle.script_model.specs.declared.Command.{Command}
-use Rattle.script_model.specs.declared.Command.TheVariants as command
-use Rattle.script_model.specs.Features.{Built}
-use Rattle.script_model.specs.Inputs.{Checked, answered}
-use Rattle.script_model.specs.Words.{meaning}
+use Rattle.trace_lines.specs.declared.status.Status.{Status}
+use Rattle.spec_script.specs.declared.Command.{Command}
+use Rattle.spec_script.specs.declared.Command.TheVariants as command
+use Rattle.spec_script.specs.Features.{Built}
+use Rattle.spec_script.specs.Inputs.{Checked, answered}
+use Rattle.spec_script.specs.Words.{meaning}
 use Rattle.script_input.specs.Inspections as inspections
-use Rattle.machine_model.specs.Answers.{mocked}
-use Rattle.machine_model.specs.Domain.{DomainState}
+use Rattle.spec_machine.specs.Answers.{mocked}
+use Rattle.spec_machine.specs.Domain.{DomainState}
 use Rattle.mock_backend.specs.Causes.{RunsTo}
 use Rattle.mock_backend.specs.Due.{due}
 

@@ -5,10 +5,10 @@ use Rattle.clap.specs.Words.{App, Rule, IsAmong, fault_of, first_of, matches_of,
 use Rattle.clap.specs.declared.builder.action.ArgAction.TheVariants.{Set}
 use Rattle.clap.specs.declared.error.kind.ErrorKind.{ErrorKind}
 use Rattle.clap.specs.declared.error.kind.ErrorKind.TheVariants as kind
-use Rattle.script_model.specs.declared.Command.TheVariants as command
-use Rattle.script_model.specs.declared.Feature.TheVariants as feature
-use Rattle.script_model.specs.Limits.{most_steps}
-use Rattle.script_model.specs.Words.{Asked, asks, asks_number, number_of}
+use Rattle.spec_script.specs.declared.Command.TheVariants as command
+use Rattle.spec_script.specs.declared.Feature.TheVariants as feature
+use Rattle.spec_script.specs.Limits.{most_steps}
+use Rattle.spec_script.specs.Words.{Asked, asks, asks_number, number_of}
 use Rattle.eio_run.specs.Behind.{behind_app}
 
 abbrev pub steps_rule : Rule

@@ -1,11 +1,11 @@
 -- What words ask for, where it is built.
 use Rattle.std.specs.Prelude.{◌<◌, ◌≤◌, Bool, true, false, Option, Some, None}
-use Rattle.script_model.specs.declared.Command.{Command}
-use Rattle.script_model.specs.declared.Command.TheVariants as command
-use Rattle.script_model.specs.Features.{is_built}
-use Rattle.script_model.specs.Limits.{most_steps}
+use Rattle.spec_script.specs.declared.Command.{Command}
+use Rattle.spec_script.specs.declared.Command.TheVariants as command
+use Rattle.spec_script.specs.Features.{is_built}
+use Rattle.spec_script.specs.Limits.{most_steps}
 use Rattle.mock_backend.specs.Today.{built_today}
-use Rattle.script_model.specs.Words.{Asked}
+use Rattle.spec_script.specs.Words.{Asked}
 
 abbrev pub only_if : Bool → Command → Option Command
 only_if true command = Some command

@@ -5,16 +5,16 @@
 ghost use Rattle.std.specs.Prelude.{◌≡◌, false, not, ◌<◌, ◌≤◌, IfSome, map, option_map};
 ghost use Rattle.std.specs.String.{string_bytes};
 ghost use Rattle.clap.specs.Words.{rule_of};
-ghost use Rattle.script_model.specs.Limits.{most_steps};
-ghost use Rattle.script_model.specs.Words as words;
-ghost use Rattle.script_model.specs.Words.{number_of};
+ghost use Rattle.spec_script.specs.Limits.{most_steps};
+ghost use Rattle.spec_script.specs.Words as words;
+ghost use Rattle.spec_script.specs.Words.{number_of};
 ghost use Rattle.eio_run.specs.Steps.{steps_rule, asked_with, has_first_digit, ReadsText};
 ghost use Rattle.eio_run.specs.Words.{if_built, IsOfToday};
 
 use crate::rest::{behind_command, has_separator};
 use clap::error::ErrorKind;
 use clap::{Arg, ArgAction};
-use script_model::Command;
+use spec_script::Command;
 use std::alloc::Global;
 
 /// The most moves that a run makes, and how many it makes where the words don't say less.

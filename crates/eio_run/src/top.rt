@@ -4,13 +4,13 @@ ghost use Rattle.std.specs.String.{string_bytes};
 ghost use Rattle.trace_out.specs.Outcome.{ReadsFor, HasItsCause};
 ghost use Rattle.mock_backend.specs.Causes.{ComesExactlyOf, EndsRaised, IsStuck};
 ghost use Rattle.mock_backend.specs.Today.{built_today};
-ghost use Rattle.script_model.specs.Words.{meaning};
+ghost use Rattle.spec_script.specs.Words.{meaning};
 ghost use Rattle.eio_run.specs.Answers.{due_to, Writes, CanComeOf, MockRunsTo};
 
 use crate::words::command_of;
 use mock_backend::mock_run;
 use script_input::{Inspection, inspect_run};
-use script_model::Command;
+use spec_script::Command;
 use std::alloc::Global;
 use std::sync::Wait;
 use std::thread::Threads;
@@ -27,7 +27,7 @@ use trace_out::{Gate, Sink, Source, Status};
 /// rest and main hasn't ended; at rest no limit was met, and no strike is owed, no fiber is ready and no timer stands.
 ///
 /// What `print` writes spells a tree that stands for the same script, offsets aside; where it has at most 262,144 bytes it is read again
-/// as that script and printed as the same bytes. That is a law over the definitions (`print_reads_again` of `script_laws`).
+/// as that script and printed as the same bytes. That is a law over the definitions (`print_reads_again` of `law_script`).
 pub fn eio_run<R: Threads + Wait + Sync, S: Source, K: Sink, G: Gate>(
     _rt: &R,
     alloc: Global,

@@ -2,13 +2,13 @@
 ghost use Rattle.std.specs.Prelude.{◌≡◌, map};
 ghost use Rattle.std.specs.String.{string_bytes};
 ghost use Rattle.mock_backend.specs.Today.{built_today};
-ghost use Rattle.script_model.specs.Words as words;
-ghost use Rattle.script_model.specs.Words.{meaning};
+ghost use Rattle.spec_script.specs.Words as words;
+ghost use Rattle.spec_script.specs.Words.{meaning};
 ghost use Rattle.eio_run.specs.Words.{if_built, IsOfToday};
 
 use crate::rest::is_alone;
 use crate::steps::mock_words;
-use script_model::Command;
+use spec_script::Command;
 use std::alloc::Global;
 
 /// The command that stands alone.

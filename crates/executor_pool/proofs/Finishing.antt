@@ -9,10 +9,10 @@ use Rattle.eio_value.specs.declared.raised.Outcome.{Outcome}
 use Rattle.eio_value.specs.Sending.{Sent, Resumes}
 use Rattle.eio_value.specs.Waking.{Test, IsKnown, IsUnknown, Keeps, Skips, IsAlive, Wakes}
 use Rattle.eio_value.proofs.Scanning.{scan_starts, scan_lost}
-use Rattle.row_model.specs.Data.{Executor, Running, Work}
-use Rattle.row_model.specs.Executors.{finish, without_running}
-use Rattle.row_model.specs.Row.{Row, Queued, Takers, Looks, but_first, done, quiet, stepped}
-use Rattle.row_model.specs.Skipping.{waiters}
+use Rattle.spec_parts.specs.Data.{Executor, Running, Work}
+use Rattle.spec_parts.specs.Executors.{finish, without_running}
+use Rattle.spec_parts.specs.Row.{Row, Queued, Takers, Looks, but_first, done, quiet, stepped}
+use Rattle.spec_parts.specs.Skipping.{waiters}
 use Rattle.wait_list.specs.Waits.{has_number}
 use Rattle.wait_list.proofs.Picking.{all_left}
 use Rattle.executor_pool.specs.Finishing.{AsksFor, AsksOne}

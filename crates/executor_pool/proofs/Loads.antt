@@ -3,9 +3,9 @@ use Rattle.std.proofs.Common.{◌≡◌, ℕ, ◌+◌, ◌≤◌, ◌<◌, ◌==
 use Rattle.std.specs.Prelude.{find}
 use Rattle.std.proofs.lemmas.Grind.{common_steps}
 use Rattle.std.proofs.lemmas.List.Folds.{list_any-append}
-use Rattle.row_model.specs.Data.{Running, Worker}
-use Rattle.row_model.specs.Executors.{fits, has_number, relieved, workers_from}
-use Rattle.row_model.specs.Row.{but_first}
+use Rattle.spec_parts.specs.Data.{Running, Worker}
+use Rattle.spec_parts.specs.Executors.{fits, has_number, relieved, workers_from}
+use Rattle.spec_parts.specs.Row.{but_first}
 use Rattle.executor_pool.specs.Working.{weight_at}
 use Rattle.executor_pool.specs.Loads.{has_place, AreApart, AreLoaded, AreAtWork, AreWorking}
 

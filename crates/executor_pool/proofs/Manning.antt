@@ -2,9 +2,9 @@
 use Rattle.std.proofs.Common.{◌≡◌, ℕ, suc, ◌+◌, ◌*◌, ◌≤◌, ◌<◌, ◌==◌, if◌then◌else◌, Bool, true, false, List, [], ◌∷◌, ◌++◌, length, map, Some, None, arith, refl, sym, ap, ◌∙◌, length-append}
 use Rattle.std.specs.Prelude.{find}
 use Rattle.std.proofs.lemmas.Grind.{common_steps}
-use Rattle.row_model.specs.Data.{Running, Worker}
-use Rattle.row_model.specs.Executors.{fits, has_number, relieved, workers_from}
-use Rattle.row_model.specs.Row.{but_first}
+use Rattle.spec_parts.specs.Data.{Running, Worker}
+use Rattle.spec_parts.specs.Executors.{fits, has_number, relieved, workers_from}
+use Rattle.spec_parts.specs.Row.{but_first}
 use Rattle.executor_pool.specs.Crews.{AreWeighty, AreManned}
 use Rattle.executor_pool.specs.Loads.{has_place, AreLoaded, AreAtWork, AreWorking}
 use Rattle.executor_pool.specs.Working.{weight_at}

@@ -2,8 +2,8 @@
 use Rattle.std.proofs.Common.{◌≡◌, ℕ, zero, suc, ◌-◌, ◌<◌, ◌==◌, ◌||◌, Bool, true, false, List, [], ◌∷◌, length, map, get_or, slice_set, Some, None, arith, refl, sym, ap, ◌∙◌, eqb-true, true≢false}
 use Rattle.std.specs.Prelude.{find}
 use Rattle.std.proofs.lemmas.Grind.{common_steps}
-use Rattle.row_model.specs.Data.{Running, Worker}
-use Rattle.row_model.specs.Executors.{relieved}
+use Rattle.spec_parts.specs.Data.{Running, Worker}
+use Rattle.spec_parts.specs.Executors.{relieved}
 use Rattle.executor_pool.specs.declared.crew.Worker.{Worker as Kept}
 use Rattle.executor_pool.specs.Kept.{worker_of}
 use Rattle.executor_pool.specs.Loads.{has_place, AreApart}

@@ -4,8 +4,8 @@ use Rattle.std.specs.Prelude.{filter, find}
 use Rattle.std.specs.List.{list_any}
 use Rattle.std.proofs.lemmas.Grind.{common_steps}
 use Rattle.std.proofs.lemmas.List.Folds.{list_any-append}
-use Rattle.row_model.specs.Data.{Submitted}
-use Rattle.row_model.specs.Row.{Queued, but_first, has_other_cell}
+use Rattle.spec_parts.specs.Data.{Submitted}
+use Rattle.spec_parts.specs.Row.{Queued, but_first, has_other_cell}
 use Rattle.wait_list.specs.Waits.{has_number, others}
 use Rattle.executor_pool.specs.Submitting.{AreHeavy, AreNumbered}
 

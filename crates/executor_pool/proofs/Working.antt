@@ -10,13 +10,13 @@ use Rattle.eio_value.specs.declared.message.Waiter.{Waiter}
 use Rattle.eio_value.specs.declared.raised.Outcome.{Outcome}
 use Rattle.eio_value.specs.declared.value.Value.TheVariants as value
 use Rattle.eio_value.specs.Sending.{Sent, Resumes, Starts}
-use Rattle.model_laws.specs.Items.{Move, Calls, Strikes}
-use Rattle.model_laws.proofs.Choices.{either_way}
-use Rattle.row_model.specs.Data.{Data, Executor, Running, Submitted, Work, Worker}
-use Rattle.row_model.specs.Executors.{executor, executor_does, finish, fits, has_number, start_head, start_on, with_job, with_running, without_running, workers_from}
-use Rattle.row_model.specs.Objects.{called}
-use Rattle.row_model.specs.Row.{Row, Queued, Stepped, Takers, Waits, Ignores, done, found, otherwise, quiet, stepped}
-use Rattle.row_model.specs.Strikes.{struck}
+use Rattle.law_parts.specs.Items.{Move, Calls, Strikes}
+use Rattle.law_parts.proofs.Choices.{either_way}
+use Rattle.spec_parts.specs.Data.{Data, Executor, Running, Submitted, Work, Worker}
+use Rattle.spec_parts.specs.Executors.{executor, executor_does, finish, fits, has_number, start_head, start_on, with_job, with_running, without_running, workers_from}
+use Rattle.spec_parts.specs.Objects.{called}
+use Rattle.spec_parts.specs.Row.{Row, Queued, Stepped, Takers, Waits, Ignores, done, found, otherwise, quiet, stepped}
+use Rattle.spec_parts.specs.Strikes.{struck}
 use Rattle.executor_pool.specs.Loads.{AreWorking}
 use Rattle.executor_pool.specs.Working.{started_by, worked, numbers, first_numbers, WeightsAreBounded, StartInOrder}
 use Rattle.executor_pool.proofs.Loads.{starts, ends, found_number, opening, bounded}

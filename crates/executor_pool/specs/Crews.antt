@@ -1,8 +1,8 @@
 -- The workers of an executor and the jobs that run on them, as the code keeps them apart from the queue.
 use Rattle.std.specs.Prelude.{ℕ, ◌+◌, ◌*◌, ◌≤◌, ◌<◌, List, [], ◌∷◌, ◌++◌, length, map}
-use Rattle.row_model.specs.Data.{Running, Worker}
-use Rattle.row_model.specs.Executors.{fits, has_number, relieved}
-use Rattle.row_model.specs.Row.{but_first}
+use Rattle.spec_parts.specs.Data.{Running, Worker}
+use Rattle.spec_parts.specs.Executors.{fits, has_number, relieved}
+use Rattle.spec_parts.specs.Row.{but_first}
 use Rattle.executor_pool.specs.Loads.{AreWorking}
 
 -- the workers in order of choice, and the jobs that run, the oldest first

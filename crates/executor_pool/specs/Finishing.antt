@@ -4,9 +4,9 @@ use Rattle.std.specs.Prelude.{◌≡◌, ℕ, Bool, List, [], ◌∷◌, filter,
 use Rattle.eio_value.specs.declared.call.Call.{Call}
 use Rattle.eio_value.specs.declared.message.Waiter.{Waiter}
 use Rattle.eio_value.specs.Waking.{Test, Keeps, Skips, IsAlive}
-use Rattle.row_model.specs.Objects.{does}
-use Rattle.row_model.specs.Row.{Row, Queued, Side, Does, Ignores, Looks, Stepped, but_first, queue, stepped, with_queue}
-use Rattle.row_model.specs.Skipping.{waiters}
+use Rattle.spec_parts.specs.Objects.{does}
+use Rattle.spec_parts.specs.Row.{Row, Queued, Side, Does, Ignores, Looks, Stepped, but_first, queue, stepped, with_queue}
+use Rattle.spec_parts.specs.Skipping.{waiters}
 
 -- nobody is dead, and all are left; or one is, the first of its kind, and the others are left
 abbrev pub Parts : (pick : Queued → Bool) → List Queued → (dead rest : List Queued) → Type 0

@@ -1,5 +1,5 @@
 -- The definitions' workers, jobs that run and jobs that are queued, of those that the code keeps.
-use Rattle.row_model.specs.Data.{Running, Submitted, Worker}
+use Rattle.spec_parts.specs.Data.{Running, Submitted, Worker}
 use Rattle.executor_pool.specs.declared.crew.Running.{Running as KeptRunning}
 use Rattle.executor_pool.specs.declared.crew.Worker.{Worker as KeptWorker}
 use Rattle.executor_pool.specs.declared.exec.Submitted.{Submitted as KeptSubmitted}

@@ -1,7 +1,7 @@
 -- What holds of an executor's workers and the jobs that run, whatever was called.
 use Rattle.std.specs.Prelude.{◌≡◌, ℕ, ◌≤◌, ◌==◌, Bool, true, false, List, [], ◌∷◌}
 use Rattle.std.specs.List.{list_any}
-use Rattle.row_model.specs.Data.{Running, Worker}
+use Rattle.spec_parts.specs.Data.{Running, Worker}
 use Rattle.executor_pool.specs.Working.{weight_at}
 
 -- whether one of these workers has this place

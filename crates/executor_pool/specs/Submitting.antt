@@ -1,9 +1,9 @@
 -- What holds of the jobs that are queued and of the fibers that wait for a job, and when no job can start.
 use Rattle.std.specs.Prelude.{◌≡◌, ℕ, ◌<◌, ◌≤◌, false, List, [], ◌∷◌, find, length, None}
 use Rattle.std.specs.List.{list_any}
-use Rattle.row_model.specs.Data.{Data, Executor, Submitted, Worker}
-use Rattle.row_model.specs.Executors.{fits}
-use Rattle.row_model.specs.Row.{Queued}
+use Rattle.spec_parts.specs.Data.{Data, Executor, Submitted, Worker}
+use Rattle.spec_parts.specs.Executors.{fits}
+use Rattle.spec_parts.specs.Row.{Queued}
 use Rattle.wait_list.specs.Lists.{WaitingList}
 use Rattle.wait_list.specs.Waits.{has_number}
 

@@ -2,12 +2,12 @@
 -- numbers.
 use Rattle.std.specs.Prelude.{◌≡◌, ℕ, zero, suc, ◌+◌, ◌≤◌, ◌==◌, if◌then◌else◌, List, [], ◌∷◌, ◌++◌, map, Option, Some, None}
 use Rattle.eio_value.specs.Sending.{Sent, Resumes, Starts}
-use Rattle.model_laws.specs.Items.{Move, Calls, Strikes}
-use Rattle.row_model.specs.Data.{Data, Executor, Running, Submitted}
-use Rattle.row_model.specs.Executors.{executor}
-use Rattle.row_model.specs.Objects.{called}
-use Rattle.row_model.specs.Row.{Row, Stepped}
-use Rattle.row_model.specs.Strikes.{struck}
+use Rattle.law_parts.specs.Items.{Move, Calls, Strikes}
+use Rattle.spec_parts.specs.Data.{Data, Executor, Running, Submitted}
+use Rattle.spec_parts.specs.Executors.{executor}
+use Rattle.spec_parts.specs.Objects.{called}
+use Rattle.spec_parts.specs.Row.{Row, Stepped}
+use Rattle.spec_parts.specs.Strikes.{struck}
 
 -- the jobs that run
 abbrev pub running : Data → List Running

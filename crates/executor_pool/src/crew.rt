@@ -2,12 +2,12 @@
 //!
 //! A job goes to the first worker that it fits, which then stands last. A worker's load is the weight of the jobs that run on it, and at most 100
 //! (`AreWorking`). As each job weighs something, at most 100 jobs run on a worker, for which the constructor takes the room. The theorems are the
-//! clauses of the methods, by `row_model`'s `Executors`.
+//! clauses of the methods, by `spec_parts`'s `Executors`.
 
 ghost use Rattle.std.specs.Prelude.{◌≡◌, ◌↔◌, ◌==◌, ◌<◌, ◌≤◌, [], find, map, nat_le, ◌+◌, true, false, Some, None, IfOk};
 ghost use Rattle.std.specs.List.{position};
-ghost use Rattle.row_model.specs.Data.{Worker as OfWorkers, Running as OfJobs};
-ghost use Rattle.row_model.specs.Executors.{fits, has_number, relieved, workers_from};
+ghost use Rattle.spec_parts.specs.Data.{Worker as OfWorkers, Running as OfJobs};
+ghost use Rattle.spec_parts.specs.Executors.{fits, has_number, relieved, workers_from};
 ghost use Rattle.executor_pool.specs.Crews.{crew_with, crew_without};
 ghost use Rattle.executor_pool.specs.Kept.{running_of, worker_of};
 ghost use Rattle.executor_pool.specs.Loads.{AreApart};

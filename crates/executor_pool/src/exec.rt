@@ -2,16 +2,16 @@
 //!
 //! Jobs are numbered from 0 and start in order of their numbers. The job at the head goes to the first worker that it fits, which then stands last;
 //! where it fits none, no job behind it starts. A submitter waits with the number of its job, and no two with one number (`IsSubmitting`), so the end
-//! of a job asks one fiber at most. The theorems are the clauses of the methods of [`Exec`], by `row_model`'s `Executors`; what holds under any calls
+//! of a job asks one fiber at most. The theorems are the clauses of the methods of [`Exec`], by `spec_parts`'s `Executors`; what holds under any calls
 //! are the laws of src/laws.rt.
 
 ghost use Rattle.std.specs.Prelude.{◌≡◌, ◌↔◌, ◌<◌, ◌≤◌, ◌+◌, ◌-◌, ◌^◌, ℕ, Bool, true, find, length, map, slice_get, None, IfOk};
 ghost use Rattle.eio_value.specs.declared.call.Answer.TheVariants as answer;
 ghost use Rattle.eio_value.specs.declared.call.Call.TheVariants as call;
 ghost use Rattle.eio_value.specs.declared.message.Waiter.{Waiter as Wait};
-ghost use Rattle.model_laws.specs.Waits.{HasEachCellOnce};
-ghost use Rattle.row_model.specs.Executors.{executor, has_number};
-ghost use Rattle.row_model.specs.Objects.{called};
+ghost use Rattle.law_parts.specs.Waits.{HasEachCellOnce};
+ghost use Rattle.spec_parts.specs.Executors.{executor, has_number};
+ghost use Rattle.spec_parts.specs.Objects.{called};
 ghost use Rattle.wait_list.specs.Meeting.{Meets};
 ghost use Rattle.executor_pool.specs.Finishing.{MeetsOne};
 ghost use Rattle.executor_pool.specs.Submitting.{StartsNone};
@@ -48,7 +48,7 @@ pub struct Exec {
 impl Model for Exec {
     ghost use Rattle.std.specs.Prelude.{map};
     ghost use Rattle.std.specs.VecDeque.{deque_capacity};
-    ghost use Rattle.row_model.specs.Data.{Executor};
+    ghost use Rattle.spec_parts.specs.Data.{Executor};
     ghost use Rattle.wait_list.specs.Lists.{Core, core_of};
     ghost use Rattle.executor_pool.specs.Kept.{submitted_of};
     ghost use Rattle.executor_pool.specs.Submitting.{IsSubmitting};

@@ -1,6 +1,6 @@
 //! Executors: a queue of submitted jobs, workers in domains that run them, and the fibers that wait for their ends.
 //!
-//! An [`Exec`] is seen as its row in `row_model`. Whether a submitter still waits isn't known here, since its wait may have been decided elsewhere;
+//! An [`Exec`] is seen as its row in `spec_parts`. Whether a submitter still waits isn't known here, since its wait may have been decided elsewhere;
 //! the end of a job asks the one fiber that waits for it, through any `eio_value::Wake`, and goes on without it where that came too late. The
 //! theorems are the clauses of the methods. All memory is taken by the constructor.
 //!

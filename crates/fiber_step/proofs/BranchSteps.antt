@@ -3,18 +3,18 @@ use Rattle.std.proofs.Common.{◌≡◌, ℕ, suc, List, [], ◌∷◌, ◌++◌
 use Rattle.std.specs.List.{AllByRecursion as Each}
 use Rattle.eio_value.specs.declared.value.Value.{Value}
 use Rattle.eio_value.specs.declared.value.Value.TheVariants as value
-use Rattle.script_model.specs.Syntax as syntax
-use Rattle.script_model.specs.Syntax.{NoBlocks}
-use Rattle.script_laws.specs.Soundness.{HasItsBranches}
+use Rattle.spec_script.specs.Syntax as syntax
+use Rattle.spec_script.specs.Syntax.{NoBlocks}
+use Rattle.law_script.specs.Scripts.Soundness.{HasItsBranches}
 use Rattle.script_forms.specs.Calls.{group_of}
 use Rattle.script_code.specs.Standing.{blocks_at, States}
 use Rattle.script_forms.specs.declared.node.Group.{Group}
 use Rattle.script_forms.specs.declared.node.Group.TheVariants as group
 use Rattle.script_forms.specs.declared.node.Node.{Node}
 use Rattle.script_forms.specs.declared.node.Node.TheVariants as node
-use Rattle.step_model.specs.Asks as model
-use Rattle.step_model.specs.Silent.{Past, asks, blocks_of, branched, statement}
-use Rattle.step_model.specs.Work.{Carry}
+use Rattle.spec_fiber.specs.Asks as model
+use Rattle.spec_fiber.specs.Silent.{Past, asks, blocks_of, branched, statement}
+use Rattle.spec_fiber.specs.Work.{Carry}
 use Rattle.fiber_step.specs.Having.{HasStatements}
 use Rattle.fiber_step.specs.Standing.{ask_of, branches_in, branches_at}
 use Rattle.fiber_step.specs.Stepping.{unbranched}

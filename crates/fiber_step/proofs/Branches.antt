@@ -5,13 +5,13 @@ use Rattle.std.specs.List.{last_or, AllByRecursion as Each}
 use Rattle.std.specs.Option.{unwrap_or}
 use Rattle.std.proofs.lemmas.List.{length_push}
 use Rattle.std.proofs.lemmas.Option.{slice_get_within}
-use Rattle.script_model.specs.Syntax.{Block, Begins, Done}
+use Rattle.spec_script.specs.Syntax.{Block, Begins, Done}
 use Rattle.script_code.specs.Standing.{block_at, blocks_at}
 use Rattle.script_forms.specs.declared.node.Group.{Group}
 use Rattle.script_forms.specs.declared.node.Node.{Node}
 use Rattle.script_forms.specs.declared.node.Node.TheVariants as node
-use Rattle.step_model.specs.Replies.{own_branch}
-use Rattle.step_model.specs.Silent.{blocks_of}
+use Rattle.spec_fiber.specs.Replies.{own_branch}
+use Rattle.spec_fiber.specs.Silent.{blocks_of}
 use Rattle.fiber_step.specs.Entering.{HasBranches}
 use Rattle.fiber_step.specs.Having.{HasStatements}
 use Rattle.fiber_step.specs.Standing.{branches_in, branches_at}

@@ -3,8 +3,8 @@ use Rattle.std.proofs.Common.{◌≡◌, ℕ, ◌+◌, List, refl, sym, ap, ◌�
 use Rattle.std.specs.Prelude.{map}
 use Rattle.eio_value.specs.declared.value.TextId.{TextId}
 use Rattle.eio_value.specs.declared.value.Value.{Value}
-use Rattle.script_model.specs.Syntax as syntax
-use Rattle.script_model.specs.Syntax.{Statement}
+use Rattle.spec_script.specs.Syntax as syntax
+use Rattle.spec_script.specs.Syntax.{Statement}
 use Rattle.script_forms.specs.Calls.{forking_of, object_call_of, reader_call_of}
 use Rattle.script_code.specs.Standing.{block_at}
 use Rattle.script_forms.specs.declared.node.Forking.{Forking}
@@ -12,8 +12,8 @@ use Rattle.script_forms.specs.declared.node.Node.{Node}
 use Rattle.script_forms.specs.declared.node.Node.TheVariants as node
 use Rattle.script_forms.specs.declared.node.ObjectCall.{ObjectCall}
 use Rattle.script_forms.specs.declared.node.ReaderCall.{ReaderCall}
-use Rattle.step_model.specs.Evaluation.{value_at, number_at}
-use Rattle.step_model.specs.Silent.{asks, statement}
+use Rattle.spec_fiber.specs.Evaluation.{value_at, number_at}
+use Rattle.spec_fiber.specs.Silent.{asks, statement}
 use Rattle.fiber_step.specs.Standing.{ask_of}
 use Rattle.fiber_step.specs.declared.ask.Ask.{Ask}
 use Rattle.fiber_step.specs.declared.ask.Ask.TheVariants as ask

@@ -3,15 +3,15 @@ use Rattle.std.proofs.Common.{◌≡◌, ◌<◌, ◌≤◌, ◌+◌, ◌^◌, �
 use Rattle.std.proofs.Math.Seq.{take-length}
 use Rattle.eio_value.specs.declared.value.Value.{Value}
 use Rattle.eio_value.specs.declared.value.Value.TheVariants as value
-use Rattle.script_model.specs.Syntax.{Statement, LetForm, If, Try}
-use Rattle.script_model.specs.Syntax as syntax
+use Rattle.spec_script.specs.Syntax.{Statement, LetForm, If, Try}
+use Rattle.spec_script.specs.Syntax as syntax
 use Rattle.script_code.specs.Standing.{statements_at, block_at}
 use Rattle.script_forms.specs.declared.node.ObjectCall.TheVariants as object
-use Rattle.step_model.specs.Asks as model
-use Rattle.step_model.specs.Settling.{Settled, answered}
-use Rattle.step_model.specs.Silent.{Went, statement}
-use Rattle.step_model.specs.Work as work
-use Rattle.step_model.specs.Work.{Carry, restored}
+use Rattle.spec_fiber.specs.Asks as model
+use Rattle.spec_fiber.specs.Settling.{Settled, answered}
+use Rattle.spec_fiber.specs.Silent.{Went, statement}
+use Rattle.spec_fiber.specs.Work as work
+use Rattle.spec_fiber.specs.Work.{Carry, restored}
 use Rattle.fiber_step.specs.Calling.{statement_at}
 use Rattle.fiber_step.specs.Going.{goes}
 use Rattle.fiber_step.specs.Kept.{Kept}

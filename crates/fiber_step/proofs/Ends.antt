@@ -5,11 +5,11 @@ use Rattle.eio_value.specs.declared.raised.Outcome.{Outcome}
 use Rattle.eio_value.specs.declared.raised.Outcome.TheVariants as outcome
 use Rattle.eio_value.specs.declared.value.Value.{Value}
 use Rattle.script_forms.specs.declared.node.Node.{Node}
-use Rattle.step_model.specs.Asks as model
-use Rattle.step_model.specs.Replies.{passed}
-use Rattle.step_model.specs.Settling.{Settled, answered, thrown}
-use Rattle.step_model.specs.Work as work
-use Rattle.step_model.specs.Work.{Work, Carry, cut}
+use Rattle.spec_fiber.specs.Asks as model
+use Rattle.spec_fiber.specs.Replies.{passed}
+use Rattle.spec_fiber.specs.Settling.{Settled, answered, thrown}
+use Rattle.spec_fiber.specs.Work as work
+use Rattle.spec_fiber.specs.Work.{Work, Carry, cut}
 use Rattle.fiber_step.specs.Standing.{mark_work, ask_of, kept_by, is_end, Ends, failed_in, value_in, unlocked}
 use Rattle.fiber_step.specs.Stepping.{HasBodiesOf}
 use Rattle.fiber_step.specs.declared.ask.Ask.{Ask}

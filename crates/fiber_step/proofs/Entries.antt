@@ -7,9 +7,9 @@ use Rattle.script_code.specs.Standing.{block_at}
 use Rattle.script_forms.specs.declared.node.Group.{Group}
 use Rattle.script_forms.specs.declared.node.Node.{Node}
 use Rattle.script_forms.specs.declared.node.Node.TheVariants as node
-use Rattle.step_model.specs.Replies.{Position, into, entered}
-use Rattle.step_model.specs.Silent.{items_of}
-use Rattle.step_model.specs.Work as work
+use Rattle.spec_fiber.specs.Replies.{Position, into, entered}
+use Rattle.spec_fiber.specs.Silent.{items_of}
+use Rattle.spec_fiber.specs.Work as work
 use Rattle.fiber_step.specs.Having.{HasStatements}
 use Rattle.fiber_step.specs.Kept.{Kept, position_of}
 use Rattle.fiber_step.specs.Placing.{IsPlaced, IsPlacedMark, ArePlaced}

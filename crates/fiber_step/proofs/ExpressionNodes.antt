@@ -2,8 +2,8 @@
 use Rattle.std.proofs.Common.{◌≡◌, ℕ, suc, ◌+◌, ◌<◌, List, [], ◌∷◌, ◌++◌, length, sym, ap, ◌∙◌, subst, append_assoc, arith, ℤ}
 use Rattle.std.proofs.lemmas.Grind.{common_steps}
 use Rattle.eio_value.specs.declared.value.TextId.{TextId}
-use Rattle.script_model.specs.Syntax as syntax
-use Rattle.script_model.specs.Syntax.{Expression}
+use Rattle.spec_script.specs.Syntax as syntax
+use Rattle.spec_script.specs.Syntax.{Expression}
 use Rattle.script_forms.specs.Calls.{operator_in}
 use Rattle.script_forms.specs.Flat.{flat_expression}
 use Rattle.script_code.specs.Standing.{expression_at, behind_expression}

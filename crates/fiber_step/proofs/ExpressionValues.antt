@@ -10,7 +10,7 @@ use Rattle.script_code.specs.Standing.{expression_at, behind_expression, Stands}
 use Rattle.script_forms.specs.declared.node.Node.{Node}
 use Rattle.script_forms.specs.declared.node.Node.TheVariants as node
 use Rattle.script_forms.specs.declared.node.Operator.{Operator}
-use Rattle.step_model.specs.Evaluation.{Evaluated, Is, Raises, value_at, value_of, ◌then◌, operated}
+use Rattle.spec_fiber.specs.Evaluation.{Evaluated, Is, Raises, value_at, value_of, ◌then◌, operated}
 
 -- what a node that begins an expression says of it
 said : (nodes : List Node) (at : ℕ) (n m : Node) → Stands nodes at n → n ≡ m → Stands nodes at m

@@ -3,9 +3,9 @@ use Rattle.std.proofs.Common.{◌≡◌, ℕ, zero, suc, ◌+◌, List, [], ◌�
 use Rattle.std.specs.Prelude.{All, slice_get}
 use Rattle.std.proofs.lemmas.List.Elements.{All-get_or}
 use Rattle.std.proofs.lemmas.Option.{slice_get_within, get_or_from_slice_get}
-use Rattle.script_model.specs.Scripts.{Script}
-use Rattle.script_model.specs.Syntax.{Block, Begins, Statements}
-use Rattle.script_laws.specs.Soundness.{Known, IsSound, IsSoundBlock, in_body, kinds_of}
+use Rattle.spec_script.specs.Scripts.{Script}
+use Rattle.spec_script.specs.Syntax.{Block, Begins, Statements}
+use Rattle.law_script.specs.Scripts.Soundness.{Known, IsSound, IsSoundBlock, in_body, kinds_of}
 use Rattle.script_forms.specs.Flat.{flat_statements, flat_bodies, nodes_of}
 use Rattle.script_code.specs.Numbered.{AreNumbered, IsNumberedBlock, AreNumberedBodies, HasNumbers}
 use Rattle.script_code.specs.Standing.{statements_at, block_at}

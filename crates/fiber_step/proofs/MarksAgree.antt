@@ -3,11 +3,11 @@ use Rattle.std.proofs.Common.{◌≡◌, ℕ, List, [], ◌∷◌, ◌++◌, len
 use Rattle.eio_value.specs.declared.value.Value.{Value}
 use Rattle.eio_value.specs.declared.value.Value.TheVariants as value
 use Rattle.eio_value.specs.declared.raised.Raised.{Raised}
-use Rattle.script_model.specs.Syntax.{Statement, Block, Begins, Statements, Then}
-use Rattle.step_model.specs.Settling.{Settled, settle, answered, thrown}
-use Rattle.step_model.specs.Silent.{Went, Past, Called, Threw, and_then, within, gives, statement, statements, block}
-use Rattle.step_model.specs.Work as work
-use Rattle.step_model.specs.Work.{Work, Carry, cut, bound, caught}
+use Rattle.spec_script.specs.Syntax.{Statement, Block, Begins, Statements, Then}
+use Rattle.spec_fiber.specs.Settling.{Settled, settle, answered, thrown}
+use Rattle.spec_fiber.specs.Silent.{Went, Past, Called, Threw, and_then, within, gives, statement, statements, block}
+use Rattle.spec_fiber.specs.Work as work
+use Rattle.spec_fiber.specs.Work.{Work, Carry, cut, bound, caught}
 use Rattle.fiber_step.specs.Going.{goes, RestFollows, GivenEnds, EndGivesUnit, BlockLeavesCut, LetLeavesBinding, TryLeavesHandler, MarksAgree}
 
 -- what follows silent statements, with this work behind all

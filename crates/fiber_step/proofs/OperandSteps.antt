@@ -3,8 +3,8 @@ use Rattle.std.proofs.Common.{◌≡◌, ℕ, ◌+◌, List, Bool, sym, ap, ◌�
 use Rattle.eio_value.specs.declared.plain.Plain.{Plain}
 use Rattle.eio_value.specs.declared.value.TextId.{TextId}
 use Rattle.eio_value.specs.declared.value.Value.{Value}
-use Rattle.script_model.specs.Syntax as syntax
-use Rattle.script_model.specs.Syntax.{Statement}
+use Rattle.spec_script.specs.Syntax as syntax
+use Rattle.spec_script.specs.Syntax.{Statement}
 use Rattle.script_forms.specs.Calls.{object_call_with_of, path_call_of, directory_of}
 use Rattle.script_code.specs.Standing.{block_at, expression_at, behind_expression, expressions_at, behind_expressions}
 use Rattle.script_forms.specs.declared.node.Directory.{Directory}
@@ -12,9 +12,9 @@ use Rattle.script_forms.specs.declared.node.Node.{Node}
 use Rattle.script_forms.specs.declared.node.Node.TheVariants as node
 use Rattle.script_forms.specs.declared.node.ObjectCallWith.{ObjectCallWith}
 use Rattle.script_forms.specs.declared.node.PathCall.{PathCall}
-use Rattle.step_model.specs.Asks as model
-use Rattle.step_model.specs.Evaluation.{Is, Raises, number_at, value_of, values_of, number_of, text_of}
-use Rattle.step_model.specs.Silent.{asks, place_in, statement, with_value}
+use Rattle.spec_fiber.specs.Asks as model
+use Rattle.spec_fiber.specs.Evaluation.{Is, Raises, number_at, value_of, values_of, number_of, text_of}
+use Rattle.spec_fiber.specs.Silent.{asks, place_in, statement, with_value}
 use Rattle.fiber_step.specs.Standing.{place_of}
 use Rattle.fiber_step.specs.Stepping.{IsRaise}
 use Rattle.fiber_step.specs.declared.ask.Ask.{Ask}

@@ -1,11 +1,11 @@
 -- What belongs to the node that begins a statement, where the statements of a block stand in reading order.
 use Rattle.std.proofs.Common.{◌≡◌, ℕ, zero, suc, ◌+◌, ◌<◌, ◌≤◌, List, ◌∷◌, ◌++◌, length, refl, sym, ap, ◌∙◌, subst, append_assoc, length-append, arith}
 use Rattle.std.specs.List.{AllByRecursion as Each}
-use Rattle.script_model.specs.Limits.{most_traced}
-use Rattle.script_model.specs.Syntax as syntax
-use Rattle.script_model.specs.Syntax.{Expression, Expressions, NoExpressions, AndExpression, Statement, Statements, Done, Then, Begins, Blocks, NoBlocks, AndBlock}
-use Rattle.script_laws.specs.Soundness as sound
-use Rattle.script_laws.specs.Soundness.{Known, IsSoundStatement, IsSoundBlock, AreSoundStatements, AreSoundBlocks, HasItsBranches, with_slot, in_job, behind, block_count}
+use Rattle.spec_script.specs.Limits.{most_traced}
+use Rattle.spec_script.specs.Syntax as syntax
+use Rattle.spec_script.specs.Syntax.{Expression, Expressions, NoExpressions, AndExpression, Statement, Statements, Done, Then, Begins, Blocks, NoBlocks, AndBlock}
+use Rattle.law_script.specs.Scripts.Soundness as sound
+use Rattle.law_script.specs.Scripts.Soundness.{Known, IsSoundStatement, IsSoundBlock, AreSoundStatements, AreSoundBlocks, HasItsBranches, with_slot, in_job, behind, block_count}
 use Rattle.script_forms.specs.Calls.{group_in, forking_in, object_call_in, object_call_with_in, reader_call_in, path_call_in, directory_in}
 use Rattle.script_forms.specs.Flat.{flat_expression, flat_expressions, expression_count, numbers_of, flat_statement, flat_statements, flat_blocks}
 use Rattle.script_code.specs.Numbered.{IsNumbered, IsNumberedBlock, AreNumbered, AreNumberedBlocks}
@@ -13,7 +13,7 @@ use Rattle.script_code.specs.ScriptCode.{group_back}
 use Rattle.script_code.specs.Standing.{behind_expression, behind_expressions}
 use Rattle.script_forms.specs.declared.node.Node.{Node}
 use Rattle.script_forms.specs.declared.node.Node.TheVariants as node
-use Rattle.script_model.specs.Kinds.{VariableKind, ContextKind, SwitchKind, ReaderKind, WriterKind, CapabilityKind}
+use Rattle.spec_script.specs.Kinds.{VariableKind, ContextKind, SwitchKind, ReaderKind, WriterKind, CapabilityKind}
 use Rattle.fiber_step.specs.Having.{HasExpression, HasExpressions, HasStatements, BeginsStatement, HasParts}
 use Rattle.fiber_step.proofs.Places.{Here, IsAt, behind_these, behind_one, in_turn, first_here, same_node, expression_here, alone, with_inner}
 

@@ -7,11 +7,11 @@ use Rattle.eio_value.specs.declared.value.Value.{Value}
 use Rattle.eio_value.specs.declared.value.Value.TheVariants as value
 use Rattle.script_code.specs.Standing.{statements_at}
 use Rattle.script_forms.specs.declared.node.Node.{Node}
-use Rattle.step_model.specs.Asks as model
-use Rattle.step_model.specs.Settling.{Settled, answered, thrown, resource_of}
-use Rattle.step_model.specs.Silent.{block}
-use Rattle.step_model.specs.Work as work
-use Rattle.step_model.specs.Work.{Work, Carry, restored, cut}
+use Rattle.spec_fiber.specs.Asks as model
+use Rattle.spec_fiber.specs.Settling.{Settled, answered, thrown, resource_of}
+use Rattle.spec_fiber.specs.Silent.{block}
+use Rattle.spec_fiber.specs.Work as work
+use Rattle.spec_fiber.specs.Work.{Work, Carry, restored, cut}
 use Rattle.fiber_step.specs.Kept.{Kept}
 use Rattle.fiber_step.specs.Placing.{HasItsBlock, ArePlaced}
 use Rattle.fiber_step.specs.Standing.{ask_of, mark_work, works_of, kept_by, is_end, Ends}

@@ -3,7 +3,7 @@ use Rattle.std.proofs.Common.{◌≡◌, ℕ, zero, suc, ◌+◌, ◌<◌, List,
 use Rattle.std.specs.Prelude.{slice_get}
 use Rattle.std.proofs.lemmas.List.{drop-drop}
 use Rattle.std.proofs.Math.Seq.{drop-append_seam}
-use Rattle.script_model.specs.Syntax.{Expression}
+use Rattle.spec_script.specs.Syntax.{Expression}
 use Rattle.script_forms.specs.Flat.{flat_expression}
 use Rattle.script_code.specs.ScriptCode.{unflat_expression}
 use Rattle.script_code.specs.Standing.{expression_at}

@@ -1,10 +1,10 @@
 -- What blocks and exceptions leave as it was.
 use Rattle.std.proofs.Common.{◌≡◌, List, [], ◌∷◌, true, false, refl, sym, ◌∙◌}
 use Rattle.eio_value.specs.declared.raised.Raised.{Raised}
-use Rattle.step_model.specs.Asks.{Ask}
-use Rattle.step_model.specs.Settling.{thrown}
-use Rattle.step_model.specs.Work as work
-use Rattle.step_model.specs.Work.{Work, Carry, restored}
+use Rattle.spec_fiber.specs.Asks.{Ask}
+use Rattle.spec_fiber.specs.Settling.{thrown}
+use Rattle.spec_fiber.specs.Work as work
+use Rattle.spec_fiber.specs.Work.{Work, Carry, restored}
 use Rattle.fiber_step.specs.Scoping.{is_end_work, EndsStop}
 
 true_false : true ≡ false → ⊥

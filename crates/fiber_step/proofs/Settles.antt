@@ -7,9 +7,9 @@ use Rattle.eio_value.specs.declared.raised.Outcome.{Outcome}
 use Rattle.eio_value.specs.declared.raised.Outcome.TheVariants as outcome
 use Rattle.eio_value.specs.declared.value.Value.{Value}
 use Rattle.script_forms.specs.declared.node.Node.{Node}
-use Rattle.step_model.specs.Asks as model
-use Rattle.step_model.specs.Settling.{Settled, answered}
-use Rattle.step_model.specs.Work.{Carry, restored}
+use Rattle.spec_fiber.specs.Asks as model
+use Rattle.spec_fiber.specs.Settling.{Settled, answered}
+use Rattle.spec_fiber.specs.Work.{Carry, restored}
 use Rattle.fiber_step.specs.Kept.{Kept}
 use Rattle.fiber_step.specs.Placing.{IsPlaced, IsPlacedMark, ArePlaced}
 use Rattle.fiber_step.specs.Settling.{SettlesTo}

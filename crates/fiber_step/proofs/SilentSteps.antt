@@ -4,18 +4,18 @@ use Rattle.eio_value.specs.declared.plain.Plain.{Plain}
 use Rattle.eio_value.specs.declared.value.TextId.{TextId}
 use Rattle.eio_value.specs.declared.value.Value.{Value}
 use Rattle.eio_value.specs.declared.value.Value.TheVariants as value
-use Rattle.script_model.specs.Syntax as syntax
-use Rattle.script_model.specs.Syntax.{Expression, Statement, Statements, Block, Then}
+use Rattle.spec_script.specs.Syntax as syntax
+use Rattle.spec_script.specs.Syntax.{Expression, Statement, Statements, Block, Then}
 use Rattle.script_forms.specs.Flat.{flat_statements}
 use Rattle.script_code.specs.ScriptCode.{unflat_statements}
 use Rattle.script_code.specs.Standing.{statements_at, block_at, expression_at, behind_expression, States}
 use Rattle.script_code.specs.Unflat.{Behind, first_rest, bound, unflat}
 use Rattle.script_forms.specs.declared.node.Node.{Node}
 use Rattle.script_forms.specs.declared.node.Node.TheVariants as node
-use Rattle.step_model.specs.Evaluation.{Is, Raises, value_of, number_of}
-use Rattle.step_model.specs.Silent.{Past, within, is_zero, repeated, statement, block}
-use Rattle.step_model.specs.Work as work
-use Rattle.step_model.specs.Work.{Carry}
+use Rattle.spec_fiber.specs.Evaluation.{Is, Raises, value_of, number_of}
+use Rattle.spec_fiber.specs.Silent.{Past, within, is_zero, repeated, statement, block}
+use Rattle.spec_fiber.specs.Work as work
+use Rattle.spec_fiber.specs.Work.{Carry}
 use Rattle.fiber_step.specs.Calling.{first_statement, statement_at}
 use Rattle.fiber_step.specs.Having.{HasStatements, BeginsStatement}
 use Rattle.fiber_step.specs.Stepping.{StatementGoes, IsRaise, IsStepped, HasFewLeft, repeats_step}

@@ -7,7 +7,7 @@ use Rattle.eio_value.specs.declared.raised.Outcome.TheVariants as outcome
 use Rattle.eio_value.specs.declared.value.TextId.{TextId}
 use Rattle.eio_value.specs.declared.value.Value.{Value}
 use Rattle.eio_value.specs.declared.value.Value.TheVariants as value
-use Rattle.script_model.specs.Syntax.{Statement, Give, Expression, Statements, Done, Then}
+use Rattle.spec_script.specs.Syntax.{Statement, Give, Expression, Statements, Done, Then}
 use Rattle.script_code.specs.Standing.{statements_at, expression_at, behind_expression, Stands}
 use Rattle.script_forms.specs.Flat.{flat_statements}
 use Rattle.script_code.specs.ScriptCode.{unflat_statements}
@@ -15,11 +15,11 @@ use Rattle.script_code.specs.Unflat as unflat
 use Rattle.script_code.specs.Unflat.{first_rest}
 use Rattle.script_forms.specs.declared.node.Node.{Node}
 use Rattle.script_forms.specs.declared.node.Node.TheVariants as node
-use Rattle.step_model.specs.Evaluation.{Evaluated, Is, Raises, value_of}
-use Rattle.step_model.specs.Settling.{answered, thrown}
-use Rattle.step_model.specs.Silent.{Went, Past, Threw, and_then, gives, raises, statement, with_value}
-use Rattle.step_model.specs.Work as work
-use Rattle.step_model.specs.Work.{Work, Carry, restored, bound}
+use Rattle.spec_fiber.specs.Evaluation.{Evaluated, Is, Raises, value_of}
+use Rattle.spec_fiber.specs.Settling.{answered, thrown}
+use Rattle.spec_fiber.specs.Silent.{Went, Past, Threw, and_then, gives, raises, statement, with_value}
+use Rattle.spec_fiber.specs.Work as work
+use Rattle.spec_fiber.specs.Work.{Work, Carry, restored, bound}
 use Rattle.fiber_step.specs.Calling.{first_statement, statement_at}
 use Rattle.fiber_step.specs.Going.{goes}
 use Rattle.fiber_step.specs.Having.{HasExpression, BeginsStatement, HasStatements, HasParts}

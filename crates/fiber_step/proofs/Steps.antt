@@ -2,13 +2,13 @@
 use Rattle.std.proofs.Common.{◌≡◌, ℕ, List, sym, ap, ◌∙◌, subst}
 use Rattle.eio_value.specs.declared.plain.Plain.{Plain}
 use Rattle.eio_value.specs.declared.value.Value.{Value}
-use Rattle.script_model.specs.Syntax.{Statement, Then}
+use Rattle.spec_script.specs.Syntax.{Statement, Then}
 use Rattle.script_code.specs.Standing.{statements_at, States, Stands}
 use Rattle.script_code.specs.Texted.{HasTextOfNode}
 use Rattle.script_forms.specs.declared.node.Node.{Node}
-use Rattle.step_model.specs.Evaluation.{Evaluated, Is, Raises}
-use Rattle.step_model.specs.Silent.{Went, asks, raises, statement, with_value}
-use Rattle.step_model.specs.Work.{Carry}
+use Rattle.spec_fiber.specs.Evaluation.{Evaluated, Is, Raises}
+use Rattle.spec_fiber.specs.Silent.{Went, asks, raises, statement, with_value}
+use Rattle.spec_fiber.specs.Work.{Carry}
 use Rattle.fiber_step.specs.Calling.{first_statement, statement_at}
 use Rattle.fiber_step.specs.Having.{HasStatements, BeginsStatement, HasParts}
 use Rattle.fiber_step.specs.Standing.{ask_of}

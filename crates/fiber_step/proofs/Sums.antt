@@ -2,8 +2,8 @@
 use Rattle.std.proofs.Common.{◌≡◌, ℕ, ◌<◌, ◌^◌, Some, None, Option, refl, ℤ, pos, negsuc, FitsSigned, w64, Bool, true, false}
 use Rattle.std.specs.Prelude.{SomeIff, nat_lt}
 use Rattle.std.proofs.lemmas.Bool.{lt-ltb, ltb-true}
-use Rattle.script_model.specs.Limits.{is_within}
-use Rattle.step_model.specs.Evaluation.{fitting}
+use Rattle.spec_script.specs.Limits.{is_within}
+use Rattle.spec_fiber.specs.Evaluation.{fitting}
 use Rattle.fiber_step.specs.Evaluating.{fitted}
 
 fits_within : (z : ℤ) → FitsSigned w64 z → is_within z ≡ true

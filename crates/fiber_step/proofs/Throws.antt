@@ -15,11 +15,11 @@ use Rattle.eio_value.specs.declared.value.TextId.{TextId}
 use Rattle.eio_value.specs.declared.value.Value.TheVariants as value
 use Rattle.script_code.specs.Standing.{statements_at}
 use Rattle.script_forms.specs.declared.node.Node.{Node}
-use Rattle.step_model.specs.Asks as model
-use Rattle.step_model.specs.Settling.{Settled, answered, thrown}
-use Rattle.step_model.specs.Silent.{raises, block}
-use Rattle.step_model.specs.Work as work
-use Rattle.step_model.specs.Work.{Carry, restored, bound}
+use Rattle.spec_fiber.specs.Asks as model
+use Rattle.spec_fiber.specs.Settling.{Settled, answered, thrown}
+use Rattle.spec_fiber.specs.Silent.{raises, block}
+use Rattle.spec_fiber.specs.Work as work
+use Rattle.spec_fiber.specs.Work.{Carry, restored, bound}
 use Rattle.fiber_step.specs.Kept.{Kept}
 use Rattle.fiber_step.specs.Standing.{works_of, is_end}
 use Rattle.fiber_step.specs.Throwing.{shared_by, IsGrown, IsTurnWith, IsStatedWith}

@@ -4,7 +4,7 @@ use Rattle.eio_value.specs.declared.plain.Plain.{Plain}
 use Rattle.eio_value.specs.declared.value.Value.{Value}
 use Rattle.script_code.specs.Standing.{expression_at, behind_expression, expressions_at, behind_expressions}
 use Rattle.script_forms.specs.declared.node.Node.{Node}
-use Rattle.step_model.specs.Evaluation.{Evaluated, Is, Raises, value_of, values_of, ◌then◌}
+use Rattle.spec_fiber.specs.Evaluation.{Evaluated, Is, Raises, value_of, values_of, ◌then◌}
 use Rattle.fiber_step.specs.Having.{HasExpression, HasExpressions}
 
 -- values behind these

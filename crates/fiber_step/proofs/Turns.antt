@@ -3,8 +3,8 @@ use Rattle.std.proofs.Common.{◌≡◌, ◌+◌, List, [], ◌∷◌, ◌++◌,
 use Rattle.std.proofs.lemmas.List.Elements.{All-push, All-pop}
 use Rattle.eio_value.specs.declared.raised.Outcome.{Outcome}
 use Rattle.script_forms.specs.declared.node.Node.{Node}
-use Rattle.step_model.specs.Replies.{passed}
-use Rattle.step_model.specs.Work.{Carry, restored}
+use Rattle.spec_fiber.specs.Replies.{passed}
+use Rattle.spec_fiber.specs.Work.{Carry, restored}
 use Rattle.fiber_step.specs.Kept.{Kept}
 use Rattle.fiber_step.specs.Placing.{IsPlacedMark, IsPlaced, ArePlaced}
 use Rattle.fiber_step.specs.Standing.{mark_work, works_of}

@@ -4,8 +4,8 @@ use Rattle.std.proofs.lemmas.List.Elements.{All-pop}
 use Rattle.eio_value.specs.declared.raised.Outcome.TheVariants as outcome
 use Rattle.eio_value.specs.declared.raised.Raised.{Raised}
 use Rattle.script_forms.specs.declared.node.Node.{Node}
-use Rattle.step_model.specs.Settling.{thrown}
-use Rattle.step_model.specs.Work.{Work, Carry, restored}
+use Rattle.spec_fiber.specs.Settling.{thrown}
+use Rattle.spec_fiber.specs.Work.{Work, Carry, restored}
 use Rattle.fiber_step.specs.Kept.{Kept}
 use Rattle.fiber_step.specs.Placing.{IsPlaced, ArePlaced}
 use Rattle.fiber_step.specs.Standing.{mark_work, works_of}

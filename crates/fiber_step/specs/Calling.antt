@@ -1,7 +1,7 @@
 -- The statement that begins at a number, and the kinds of nodes by what their statements come to.
 use Rattle.std.specs.Prelude.{ℕ, Bool, true, false, List}
-use Rattle.script_model.specs.Syntax as syntax
-use Rattle.script_model.specs.Syntax.{Statement, Statements, Done, Then}
+use Rattle.spec_script.specs.Syntax as syntax
+use Rattle.spec_script.specs.Syntax.{Statement, Statements, Done, Then}
 use Rattle.script_code.specs.Standing.{statements_at}
 use Rattle.script_forms.specs.declared.node.Node.{Node}
 use Rattle.script_forms.specs.declared.node.Node.TheVariants as node

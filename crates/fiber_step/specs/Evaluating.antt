@@ -6,7 +6,7 @@ use Rattle.eio_value.specs.declared.plain.Plain.TheVariants.{Invalid}
 use Rattle.eio_value.specs.declared.value.TextId.{TextId}
 use Rattle.eio_value.specs.declared.value.Value.{Value}
 use Rattle.eio_value.specs.declared.value.Value.TheVariants.{Int}
-use Rattle.step_model.specs.Evaluation.{Evaluated, Is, Raises}
+use Rattle.spec_fiber.specs.Evaluation.{Evaluated, Is, Raises}
 use Rattle.fiber_step.specs.declared.evaluation.AllOperands.{AllOperands}
 use Rattle.fiber_step.specs.declared.evaluation.NumberOperand.{NumberOperand}
 use Rattle.fiber_step.specs.declared.evaluation.Operand.{Operand}

@@ -3,11 +3,11 @@
 use Rattle.std.specs.Prelude.{◌≡◌, ℕ, true, false, List, ◌∷◌, length}
 use Rattle.eio_value.specs.declared.value.Value.{Value}
 use Rattle.eio_value.specs.declared.value.Value.TheVariants as value
-use Rattle.script_model.specs.Syntax.{Statement, LetForm, Try, Block, Statements, Done, Then}
-use Rattle.step_model.specs.Settling.{Settled, settle, answered, thrown}
-use Rattle.step_model.specs.Silent.{Went, within, gives, items_of, statement, block}
-use Rattle.step_model.specs.Work as work
-use Rattle.step_model.specs.Work.{Work, Carry}
+use Rattle.spec_script.specs.Syntax.{Statement, LetForm, Try, Block, Statements, Done, Then}
+use Rattle.spec_fiber.specs.Settling.{Settled, settle, answered, thrown}
+use Rattle.spec_fiber.specs.Silent.{Went, within, gives, items_of, statement, block}
+use Rattle.spec_fiber.specs.Work as work
+use Rattle.spec_fiber.specs.Work.{Work, Carry}
 
 -- the next call, where silent statements came to this and then this work is left
 abbrev pub goes : Went → List Work → Settled

@@ -2,9 +2,9 @@
 -- Where a block begins, its statements stand in reading order, their blocks are numbered where they begin, and each number is within its limits.
 use Rattle.std.specs.Prelude.{◌≡◌, ℕ, zero, suc, ◌+◌, ◌≤◌, List, ◌++◌, drop, length}
 use Rattle.std.specs.List.{AllByRecursion as Each}
-use Rattle.script_model.specs.Limits.{most_traced, most_captured}
-use Rattle.script_model.specs.Syntax.{Expression, Statement, Statements, Then}
-use Rattle.script_laws.specs.Soundness.{Known, IsSoundStatement, AreSoundStatements, HasItsBranches}
+use Rattle.spec_script.specs.Limits.{most_traced, most_captured}
+use Rattle.spec_script.specs.Syntax.{Expression, Statement, Statements, Then}
+use Rattle.law_script.specs.Scripts.Soundness.{Known, IsSoundStatement, AreSoundStatements, HasItsBranches}
 use Rattle.script_forms.specs.Calls.{group_of}
 use Rattle.script_forms.specs.Flat.{flat_expression, flat_statements}
 use Rattle.script_code.specs.Numbered.{AreNumbered}

@@ -2,7 +2,7 @@
 use Rattle.std.specs.Prelude.{List}
 use Rattle.eio_value.specs.declared.value.Value.{Value}
 use Rattle.script_forms.specs.declared.node.Node.{Node}
-use Rattle.step_model.specs.Replies.{Position}
+use Rattle.spec_fiber.specs.Replies.{Position}
 use Rattle.fiber_step.specs.Standing.{works_of}
 use Rattle.fiber_step.specs.declared.item.Item.{Item}
 

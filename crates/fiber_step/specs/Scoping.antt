@@ -2,11 +2,11 @@
 use Rattle.std.specs.Prelude.{◌≡◌, Bool, true, false, List, [], ◌∷◌, ◌++◌, length}
 use Rattle.eio_value.specs.declared.raised.Raised.{Raised}
 use Rattle.eio_value.specs.declared.value.Value.{Value}
-use Rattle.script_model.specs.Syntax.{Block}
-use Rattle.step_model.specs.Settling.{thrown}
-use Rattle.step_model.specs.Silent.{Past, within, block}
-use Rattle.step_model.specs.Work as work
-use Rattle.step_model.specs.Work.{Work, Carry}
+use Rattle.spec_script.specs.Syntax.{Block}
+use Rattle.spec_fiber.specs.Settling.{thrown}
+use Rattle.spec_fiber.specs.Silent.{Past, within, block}
+use Rattle.spec_fiber.specs.Work as work
+use Rattle.spec_fiber.specs.Work.{Work, Carry}
 
 -- whether an item is an end that makes a call with what comes to it
 abbrev pub is_end_work : Work → Bool

@@ -5,7 +5,7 @@ use Rattle.eio_value.specs.declared.plain.Member.{Member}
 use Rattle.eio_value.specs.declared.raised.Outcome.{Outcome}
 use Rattle.eio_value.specs.declared.raised.Outcome.TheVariants as outcome
 use Rattle.script_forms.specs.declared.node.Node.{Node}
-use Rattle.step_model.specs.Work.{restored}
+use Rattle.spec_fiber.specs.Work.{restored}
 use Rattle.fiber_step.specs.Kept.{Kept}
 use Rattle.fiber_step.specs.Standing.{ask_of, works_of}
 use Rattle.fiber_step.specs.Turning.{Shared, carried, next_call}

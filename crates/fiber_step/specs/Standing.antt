@@ -5,16 +5,16 @@ use Rattle.eio_value.specs.declared.raised.Outcome.TheVariants as outcome
 use Rattle.eio_value.specs.declared.raised.Raised.{Raised}
 use Rattle.eio_value.specs.declared.value.Value.{Value}
 use Rattle.eio_value.specs.declared.value.Value.TheVariants as value
-use Rattle.script_model.specs.Syntax.{Blocks, NoBlocks}
+use Rattle.spec_script.specs.Syntax.{Blocks, NoBlocks}
 use Rattle.script_forms.specs.Calls.{group_of, forking_of, object_call_of, object_call_with_of, reader_call_of, path_call_of}
 use Rattle.script_code.specs.Standing.{statements_at, block_at, blocks_at}
 use Rattle.script_forms.specs.declared.node.Node.{Node}
 use Rattle.script_forms.specs.declared.node.Node.TheVariants as node
-use Rattle.step_model.specs.Asks as model
-use Rattle.step_model.specs.Replies.{passed}
-use Rattle.step_model.specs.Silent.{blocks_of}
-use Rattle.step_model.specs.Work as work
-use Rattle.step_model.specs.Work.{Work, Carry, cut}
+use Rattle.spec_fiber.specs.Asks as model
+use Rattle.spec_fiber.specs.Replies.{passed}
+use Rattle.spec_fiber.specs.Silent.{blocks_of}
+use Rattle.spec_fiber.specs.Work as work
+use Rattle.spec_fiber.specs.Work.{Work, Carry, cut}
 use Rattle.fiber_step.specs.declared.ask.Ask.{Ask}
 use Rattle.fiber_step.specs.declared.ask.Ask.TheVariants as ask
 use Rattle.fiber_step.specs.declared.ask.Place.{Place}

@@ -1,12 +1,12 @@
 -- What the statements that are left of a block do.
 use Rattle.std.specs.Prelude.{◌≡◌, ◌<◌, ◌^◌, ◌+◌, ℕ, zero, suc, length, List, Some, slice_get, Bool, true, false}
-use Rattle.script_model.specs.Syntax.{Statement, LetForm, Statements}
+use Rattle.spec_script.specs.Syntax.{Statement, LetForm, Statements}
 use Rattle.script_code.specs.Standing.{statements_at, Stands}
 use Rattle.script_code.specs.Unflat.{bound}
 use Rattle.script_forms.specs.declared.node.Node.{Node}
 use Rattle.script_forms.specs.declared.node.Node.TheVariants as node
-use Rattle.step_model.specs.Silent.{statement}
-use Rattle.step_model.specs.Work.{Carry, restored}
+use Rattle.spec_fiber.specs.Silent.{statement}
+use Rattle.spec_fiber.specs.Work.{Carry, restored}
 use Rattle.fiber_step.specs.Calling.{statement_at}
 use Rattle.fiber_step.specs.Going.{goes}
 use Rattle.fiber_step.specs.Having.{BeginsStatement}

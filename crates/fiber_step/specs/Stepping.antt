@@ -6,15 +6,15 @@ use Rattle.eio_value.specs.declared.plain.Plain.{Plain}
 use Rattle.eio_value.specs.declared.plain.Plain.TheVariants.{Failure, Invalid}
 use Rattle.eio_value.specs.declared.value.Value.{Value}
 use Rattle.eio_value.specs.declared.value.Value.TheVariants as value
-use Rattle.script_model.specs.Syntax as syntax
+use Rattle.spec_script.specs.Syntax as syntax
 use Rattle.script_code.specs.Standing.{statements_at, block_at}
 use Rattle.script_code.specs.Texted.{IsAmong}
 use Rattle.script_forms.specs.declared.node.Group.{Group}
 use Rattle.script_forms.specs.declared.node.Group.TheVariants as group
 use Rattle.script_forms.specs.declared.node.Node.{Node}
 use Rattle.script_forms.specs.declared.node.Node.TheVariants as node
-use Rattle.step_model.specs.Silent.{Went, Past, within, raises, asks, repeats, statement, block}
-use Rattle.step_model.specs.Work.{Carry, bound}
+use Rattle.spec_fiber.specs.Silent.{Went, Past, within, raises, asks, repeats, statement, block}
+use Rattle.spec_fiber.specs.Work.{Carry, bound}
 use Rattle.fiber_step.specs.Calling.{statement_at}
 use Rattle.fiber_step.specs.Entering.{HasBranches}
 use Rattle.fiber_step.specs.Having.{HasStatements, BeginsStatement}

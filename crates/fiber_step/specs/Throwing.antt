@@ -3,8 +3,8 @@ use Rattle.std.specs.Prelude.{◌≡◌, ◌++◌, List, ℕ}
 use Rattle.eio_value.specs.declared.plain.Member.{Member}
 use Rattle.eio_value.specs.declared.raised.Outcome.{Outcome}
 use Rattle.script_forms.specs.declared.node.Node.{Node}
-use Rattle.step_model.specs.Silent.{Went}
-use Rattle.step_model.specs.Work.{Carry, restored}
+use Rattle.spec_fiber.specs.Silent.{Went}
+use Rattle.spec_fiber.specs.Work.{Carry, restored}
 use Rattle.fiber_step.specs.Going.{goes}
 use Rattle.fiber_step.specs.Kept.{Kept}
 use Rattle.fiber_step.specs.Placing.{ArePlaced}

@@ -4,9 +4,9 @@ use Rattle.eio_value.specs.declared.plain.Member.{Member}
 use Rattle.eio_value.specs.declared.raised.Outcome.{Outcome}
 use Rattle.eio_value.specs.declared.value.Value.{Value}
 use Rattle.script_forms.specs.declared.node.Node.{Node}
-use Rattle.step_model.specs.Replies.{passed}
-use Rattle.step_model.specs.Settling.{Settled, answered}
-use Rattle.step_model.specs.Work.{Carry, restored}
+use Rattle.spec_fiber.specs.Replies.{passed}
+use Rattle.spec_fiber.specs.Settling.{Settled, answered}
+use Rattle.spec_fiber.specs.Work.{Carry, restored}
 use Rattle.fiber_step.specs.Kept.{Kept}
 use Rattle.fiber_step.specs.Placing.{ArePlaced}
 use Rattle.fiber_step.specs.Standing.{ask_of, works_of}

@@ -3,7 +3,7 @@ use Rattle.std.specs.Prelude.{◌≡◌, ◌≤◌, Bool, true, List, [], Option
 use Rattle.eio_value.specs.declared.raised.Outcome.TheVariants as outcome
 use Rattle.eio_value.specs.declared.raised.Raised.{Raised}
 use Rattle.script_forms.specs.declared.node.Node.{Node}
-use Rattle.step_model.specs.Work.{Carry}
+use Rattle.spec_fiber.specs.Work.{Carry}
 use Rattle.fiber_step.specs.Kept.{Kept}
 use Rattle.fiber_step.specs.Placing.{ArePlaced}
 use Rattle.fiber_step.specs.Standing.{works_of, is_end}

@@ -1,8 +1,8 @@
 -- How much silent work can come of items: each turn of a settling leaves less.
 use Rattle.std.specs.Prelude.{ℕ, ◌+◌, List, [], ◌∷◌}
-use Rattle.script_model.specs.Syntax.{Statement, LetForm, If, Try, Block, Begins, Statements, Done, Then}
-use Rattle.step_model.specs.Work as work
-use Rattle.step_model.specs.Work.{Work}
+use Rattle.spec_script.specs.Syntax.{Statement, LetForm, If, Try, Block, Begins, Statements, Done, Then}
+use Rattle.spec_fiber.specs.Work as work
+use Rattle.spec_fiber.specs.Work.{Work}
 
 unfoldable mutual
   pub weight_of_statement : Statement → ℕ

@@ -6,8 +6,8 @@ ghost use Rattle.fiber_step.specs.Calling.{is_bare, has_own_block, hands_on};
 ghost use Rattle.fiber_step.specs.Having.{BeginsStatement};
 ghost use Rattle.fiber_step.specs.Stepping.{IsStepIf};
 ghost use Rattle.script_forms.specs.Flat.{nodes_of};
-ghost use Rattle.script_model.specs.Limits.{most_captured};
-ghost use Rattle.step_model.specs.Evaluation.{value_at};
+ghost use Rattle.spec_script.specs.Limits.{most_captured};
+ghost use Rattle.spec_fiber.specs.Evaluation.{value_at};
 
 use crate::ask::Ask;
 use crate::step::{Step, Stepped};

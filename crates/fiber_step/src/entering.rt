@@ -11,8 +11,8 @@ ghost use Rattle.fiber_step.specs.Standing.{ask_of, branches_at};
 ghost use Rattle.script_forms.specs.Flat.{nodes_of};
 ghost use Rattle.script_code.specs.Standing.{block_at};
 ghost use Rattle.script_forms.specs.declared.node.Node.{Node as Begun};
-ghost use Rattle.step_model.specs.Replies as model;
-ghost use Rattle.step_model.specs.Silent.{blocks_of};
+ghost use Rattle.spec_fiber.specs.Replies as model;
+ghost use Rattle.spec_fiber.specs.Silent.{blocks_of};
 
 use crate::ask::Ask;
 use crate::fiber::Fiber;

@@ -6,12 +6,12 @@
 ghost use Rattle.std.specs.Prelude.{◌≡◌, ◌≤◌, IfOk};
 ghost use Rattle.fiber_step.specs.Evaluating.{evaluated, operand_value, operand_number, operand_text, operand_values, fitted};
 ghost use Rattle.fiber_step.specs.Having.{HasExpression, HasExpressions};
-ghost use Rattle.script_model.specs.Limits.{most_traced};
+ghost use Rattle.spec_script.specs.Limits.{most_traced};
 ghost use Rattle.script_forms.specs.Calls.{operator_of};
 ghost use Rattle.script_forms.specs.Flat.{nodes_of};
 ghost use Rattle.script_code.specs.Standing.{expression_at, behind_expression, expressions_at, behind_expressions};
-ghost use Rattle.step_model.specs.Evaluation as evaluation;
-ghost use Rattle.step_model.specs.Evaluation.{value_of, values_of, number_of, text_of};
+ghost use Rattle.spec_fiber.specs.Evaluation as evaluation;
+ghost use Rattle.spec_fiber.specs.Evaluation.{value_of, values_of, number_of, text_of};
 
 use crate::variables::Scope;
 use eio_value::{Misuse, Operands, TextId, Value};

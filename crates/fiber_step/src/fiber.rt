@@ -9,7 +9,7 @@ ghost use Rattle.fiber_step.specs.Kept.{position_of};
 ghost use Rattle.fiber_step.specs.Placing.{ArePlaced};
 ghost use Rattle.script_code.specs.Standing.{block_at};
 ghost use Rattle.script_forms.specs.declared.node.Node.{Node};
-ghost use Rattle.step_model.specs.Replies.{begun, begun_promising};
+ghost use Rattle.spec_fiber.specs.Replies.{begun, begun_promising};
 
 use crate::draft::Changes;
 use crate::item::Item;

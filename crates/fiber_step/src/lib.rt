@@ -2,6 +2,7 @@
 #![tactic(auto)]
 
 mod ask;
+mod block_laws;
 mod bodies;
 mod calls;
 mod draft;
@@ -23,6 +24,7 @@ mod unwind;
 mod variables;
 
 pub use ask::{Ask, Place};
+pub use block_laws::{blocks_by_node, blocks_by_number, numbers_rise};
 pub use bodies::first_node;
 pub use entering::branch_bodies;
 pub use fiber::Fiber;

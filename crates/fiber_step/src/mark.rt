@@ -5,7 +5,7 @@ ghost use Rattle.fiber_step.specs.Standing.{ask_of, Ends, failed_in, value_in, u
 ghost use Rattle.fiber_step.specs.Stepping.{HasBodiesOf};
 ghost use Rattle.fiber_step.specs.Unwinding.{stops};
 ghost use Rattle.script_forms.specs.declared.node.Node.{Node};
-ghost use Rattle.step_model.specs.Asks as model;
+ghost use Rattle.spec_fiber.specs.Asks as model;
 
 use crate::ask::Ask;
 use eio_value::{Outcome, Raised, Value};

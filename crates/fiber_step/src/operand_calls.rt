@@ -7,7 +7,7 @@ ghost use Rattle.fiber_step.specs.Standing.{place_of};
 ghost use Rattle.fiber_step.specs.Stepping.{IsStepOrRaiseIf};
 ghost use Rattle.script_forms.specs.Calls.{directory_of};
 ghost use Rattle.script_forms.specs.Flat.{nodes_of};
-ghost use Rattle.step_model.specs.Silent.{place_in};
+ghost use Rattle.spec_fiber.specs.Silent.{place_in};
 
 use crate::ask::{Ask, Place};
 use crate::evaluation::{evaluate, evaluate_all, evaluate_number, evaluate_text};

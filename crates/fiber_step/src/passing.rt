@@ -1,7 +1,7 @@
 //! What marks do to which a value comes, and the calls of ends.
 
 ghost use Rattle.std.specs.Prelude.{◌≡◌};
-ghost use Rattle.step_model.specs.Settling.{resource_of};
+ghost use Rattle.spec_fiber.specs.Settling.{resource_of};
 
 use crate::ask::Ask;
 use crate::draft::Draft;

@@ -7,7 +7,7 @@ ghost use Rattle.fiber_step.specs.Having.{BeginsStatement};
 ghost use Rattle.fiber_step.specs.Stepping.{IsStepIf, IsStepOf, HasFewLeft, repeats_step, unbranched};
 ghost use Rattle.script_forms.specs.Flat.{nodes_of};
 ghost use Rattle.script_forms.specs.declared.node.Node.{Node as Begun};
-ghost use Rattle.step_model.specs.Silent.{is_zero};
+ghost use Rattle.spec_fiber.specs.Silent.{is_zero};
 
 use crate::ask::Ask;
 use crate::evaluation::{evaluate, evaluate_number};

@@ -58,7 +58,7 @@ impl<'f> Draft<'f> {
     ghost use Rattle.eio_value.specs.Exceptions.{HasTextsOfPlain};
     ghost use Rattle.eio_value.specs.declared.raised.Outcome.TheVariants as outcome;
     ghost use Rattle.script_forms.specs.declared.node.Node.{Node as Begun};
-    ghost use Rattle.step_model.specs.Silent.{raises};
+    ghost use Rattle.spec_fiber.specs.Silent.{raises};
     ghost use Rattle.fiber_step.specs.Standing.{is_end};
     ghost use Rattle.fiber_step.specs.Throwing.{shared_by, IsGrown, IsTurnWith, IsStatedWith};
     ghost use Rattle.fiber_step.specs.Turning.{with_mark};

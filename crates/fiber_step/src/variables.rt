@@ -98,7 +98,7 @@ impl<'v> Model for Scope<'v> {
 
 impl<'v> Scope<'v> {
     ghost use Rattle.std.specs.Prelude.{◌++◌, length};
-    ghost use Rattle.step_model.specs.Evaluation.{value_at, number_at};
+    ghost use Rattle.spec_fiber.specs.Evaluation.{value_at, number_at};
 
     /// These, and those behind them.
     pub fn new(kept: &'v [Value], since: &'v [Value]) -> Scope<'v>

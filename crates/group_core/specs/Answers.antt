@@ -3,7 +3,7 @@ use Rattle.std.specs.Prelude.{ℕ, Option}
 use Rattle.eio_value.specs.declared.plain.Plain.{Plain}
 use Rattle.group_core.specs.declared.answers.JoinStep.{JoinStep}
 use Rattle.group_core.specs.declared.answers.JoinStep.TheVariants.{Wait, Give, Raise}
-use Rattle.row_model.specs.Groups as model
+use Rattle.spec_parts.specs.Groups as model
 
 -- this group after something that ends in it, with the reason by which its context is cancelled and the fiber that is woken
 abbrev pub ended_with : model.Group → (cancels : Option Plain) → (woken : Option ℕ) → model.BranchEnded

@@ -1,7 +1,7 @@
 -- The kind of a group, in code and in the definition.
 use Rattle.group_core.specs.declared.kind.GroupKind.{GroupKind}
 use Rattle.group_core.specs.declared.kind.GroupKind.TheVariants.{Both, All, First, Any}
-use Rattle.row_model.specs.Groups as model
+use Rattle.spec_parts.specs.Groups as model
 
 abbrev pub kind_of : GroupKind → model.GroupKind
 kind_of Both = model.Both

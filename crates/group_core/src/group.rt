@@ -3,8 +3,8 @@
 
 ghost use Rattle.std.specs.Prelude.{◌≡◌, Option, None};
 ghost use Rattle.eio_value.specs.declared.plain.Plain.{Plain};
-ghost use Rattle.row_model.specs.Errors.{joined};
-ghost use Rattle.row_model.specs.Groups.{gathered, kept_value, outcome_in, wake_joiner, branch_ends, given_or, raised_or, weighty, result_of, join};
+ghost use Rattle.spec_parts.specs.Errors.{joined};
+ghost use Rattle.spec_parts.specs.Groups.{gathered, kept_value, outcome_in, wake_joiner, branch_ends, given_or, raised_or, weighty, result_of, join};
 ghost use Rattle.group_core.specs.Answers.{ended_with, step_of};
 ghost use Rattle.group_core.specs.Kinds.{kind_of};
 
@@ -28,7 +28,7 @@ pub(crate) struct Group {
 }
 
 impl Model for Group {
-    ghost use Rattle.row_model.specs.Groups as model;
+    ghost use Rattle.spec_parts.specs.Groups as model;
     ghost use Rattle.group_core.specs.Kinds.{kind_of};
 
     ghost Value = { model.Group };

@@ -2,7 +2,7 @@
 //! functions of these names do; all others stay as they were.
 
 ghost use Rattle.std.specs.Prelude.{◌≡◌, ◌<◌, ◌^◌, ◌↔◌, [], ◌∷◌, ◌++◌, length, IfOk, IsTrue, OnOk, OnErr};
-ghost use Rattle.row_model.specs.Groups.{gathered, group_at, with_group, branch_ends, join};
+ghost use Rattle.spec_parts.specs.Groups.{gathered, group_at, with_group, branch_ends, join};
 ghost use Rattle.group_core.specs.Answers.{step_of};
 ghost use Rattle.group_core.specs.Kinds.{kind_of};
 
@@ -20,7 +20,7 @@ pub struct Groups {
 
 impl Model for Groups {
     ghost use Rattle.std.specs.Prelude.{List};
-    ghost use Rattle.row_model.specs.Groups as model;
+    ghost use Rattle.spec_parts.specs.Groups as model;
 
     ghost Value = { List model.Group };
 

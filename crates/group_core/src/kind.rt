@@ -1,7 +1,7 @@
 //! The kinds of groups.
 
 ghost use Rattle.std.specs.Prelude.{◌≡◌};
-ghost use Rattle.row_model.specs.Groups.{keeps_a_value};
+ghost use Rattle.spec_parts.specs.Groups.{keeps_a_value};
 ghost use Rattle.group_core.specs.Kinds.{kind_of};
 
 /// Which call made a group.

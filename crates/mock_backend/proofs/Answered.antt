@@ -4,18 +4,18 @@ use Rattle.std.specs.Prelude.{IfOk}
 use Rattle.std.specs.declared.option.Option.{Option}
 use Rattle.std.specs.Io.KnownBytes.{Appends}
 use Rattle.std.proofs.KnownBytes.{Appends-trans}
-use Rattle.script_model.specs.Inputs.{mocked_script}
-use Rattle.script_model.specs.Scripts.{Script}
+use Rattle.spec_script.specs.Inputs.{mocked_script}
+use Rattle.spec_script.specs.Scripts.{Script}
 use Rattle.mock_backend.specs.Today.{built_today}
 use Rattle.trace_out.specs.Causes.{AppendsFront}
 use Rattle.trace_out.specs.Input.{ReadsInput}
 use Rattle.trace_out.specs.Outcome.{Due, HasRead, ReadsFor, WritesFor}
-use Rattle.trace_out.specs.declared.status.Status.TheVariants as status
+use Rattle.trace_lines.specs.declared.status.Status.TheVariants as status
 use Rattle.trace_out.proofs.Appended.{front_after, front_longer}
-use Rattle.machine_model.specs.declared.Ending.{Ending}
-use Rattle.machine_model.specs.declared.Ending.TheVariants as ending
-use Rattle.machine_model.specs.Answers.{Answer, ended, ran, ran_if, mocked}
-use Rattle.machine_model.specs.Trace.{run, trace, ending_in, last_line}
+use Rattle.spec_machine.specs.declared.Ending.{Ending}
+use Rattle.spec_machine.specs.declared.Ending.TheVariants as ending
+use Rattle.spec_machine.specs.Answers.{Answer, ended, ran, ran_if, mocked}
+use Rattle.spec_machine.specs.Trace.{run, trace, ending_in, last_line}
 use Rattle.script_input.specs.declared.refusal.Refusal.{Refusal as Refused}
 use Rattle.script_input.specs.Refusals.{IsRefusedAs, line_of}
 use Rattle.mock_backend.specs.declared.fault.RunFault.{RunFault}

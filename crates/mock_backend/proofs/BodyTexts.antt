@@ -3,16 +3,16 @@ use Rattle.std.proofs.Common.{◌≡◌, ℕ, List, Option, Some, None, IfSome, 
 use Rattle.eio_value.specs.declared.raised.Outcome.{Outcome}
 use Rattle.eio_value.specs.declared.raised.Outcome.TheVariants as outcome
 use Rattle.fiber_step.specs.Settling.{HasTextsOfOutcome}
-use Rattle.machine_model.specs.declared.Ending.{Ending}
-use Rattle.machine_model.specs.declared.Ending.TheVariants as ending
-use Rattle.machine_model.specs.Domain.{Standing, Ready, Parked, Ended, DomainState, fiber_at}
-use Rattle.machine_model.specs.Mock.{Mock, opening}
-use Rattle.machine_model.specs.Trace.{body_end, ending_in, last_line}
-use Rattle.script_model.specs.Opening.{opening_texts}
-use Rattle.script_model.specs.Scripts.{Script}
-use Rattle.text_laws.specs.Domains.{IsTextedStanding}
-use Rattle.text_laws.proofs.Moving.{known_have_texts}
-use Rattle.well_laws.specs.WellStates.{IsRunnable, StandsWell}
+use Rattle.spec_machine.specs.declared.Ending.{Ending}
+use Rattle.spec_machine.specs.declared.Ending.TheVariants as ending
+use Rattle.spec_machine.specs.Domain.{Standing, Ready, Parked, Ended, DomainState, fiber_at}
+use Rattle.spec_machine.specs.Mock.{Mock, opening}
+use Rattle.spec_machine.specs.Trace.{body_end, ending_in, last_line}
+use Rattle.spec_script.specs.Opening.{opening_texts}
+use Rattle.spec_script.specs.Scripts.{Script}
+use Rattle.law_domain.specs.Texts.Domains.{IsTextedStanding}
+use Rattle.law_domain.proofs.Texts.Moving.{known_have_texts}
+use Rattle.law_domain.specs.Well.WellStates.{IsRunnable, StandsWell}
 use Rattle.domain_core.specs.Keeping.{KeptDomain}
 use Rattle.domain_core.specs.Mirrors.{Mirrors}
 use Rattle.domain_core.specs.Turns.{StandsFor}

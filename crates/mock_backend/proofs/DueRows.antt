@@ -3,31 +3,31 @@ use Rattle.std.proofs.Common.{◌≡◌, ℕ, refl}
 use Rattle.std.specs.Prelude.{codes}
 use Prim.Native.String.{String}
 use Rattle.std.specs.Fmt.{digits}
-use Rattle.script_model.specs.Captures.{captured_behind}
-use Rattle.script_model.specs.Declarations.{workers, declaration, declarations_behind}
-use Rattle.script_model.specs.Entries.{entries}
-use Rattle.script_model.specs.Expressions.{item, traced}
-use Rattle.script_model.specs.FlowSteps.{steps}
-use Rattle.script_model.specs.Forms.{form_of}
-use Rattle.script_model.specs.Inputs.{input_script, mocked_script}
-use Rattle.script_model.specs.Opening.{opening_texts}
-use Rattle.script_model.specs.Reading.{past_gap, text_items, run_tree, trees_by, tree_at, reading}
-use Rattle.script_model.specs.Refusals.{refusal_line, input_tree}
-use Rattle.script_model.specs.Scopes.{bring, used, directory_of}
-use Rattle.script_model.specs.Scripts.{domains, script_of}
-use Rattle.script_model.specs.Statements as reads
-use Rattle.row_model.specs.Contexts.{way_within}
-use Rattle.step_model.specs.Evaluation.{value_of, values_of}
-use Rattle.step_model.specs.Settling as settling
-use Rattle.step_model.specs.Silent as silent
+use Rattle.spec_script.specs.Captures.{captured_behind}
+use Rattle.spec_script.specs.Declarations.{workers, declaration, declarations_behind}
+use Rattle.spec_script.specs.Entries.{entries}
+use Rattle.spec_script.specs.Expressions.{item, traced}
+use Rattle.spec_script.specs.FlowSteps.{steps}
+use Rattle.spec_script.specs.Forms.{form_of}
+use Rattle.spec_script.specs.Inputs.{input_script, mocked_script}
+use Rattle.spec_script.specs.Opening.{opening_texts}
+use Rattle.spec_script.specs.Reading.{past_gap, text_items, run_tree, trees_by, tree_at, reading}
+use Rattle.spec_script.specs.Refusals.{refusal_line, input_tree}
+use Rattle.spec_script.specs.Scopes.{bring, used, directory_of}
+use Rattle.spec_script.specs.Scripts.{domains, script_of}
+use Rattle.spec_script.specs.Statements as reads
+use Rattle.spec_parts.specs.Contexts.{way_within}
+use Rattle.spec_fiber.specs.Evaluation.{value_of, values_of}
+use Rattle.spec_fiber.specs.Settling as settling
+use Rattle.spec_fiber.specs.Silent as silent
 use Rattle.trace_out.specs.Outcome.{Due}
-use Rattle.trace_out.specs.declared.status.Status.{Status}
-use Rattle.trace_out.specs.declared.status.Status.TheVariants as status
-use Rattle.machine_model.specs.Answers.{ran, mocked}
-use Rattle.machine_model.specs.Mock.{move, moves}
-use Rattle.machine_model.specs.Moves.{own_call}
-use Rattle.machine_model.specs.Preparing.{prepared}
-use Rattle.machine_model.specs.Trace.{run}
+use Rattle.trace_lines.specs.declared.status.Status.{Status}
+use Rattle.trace_lines.specs.declared.status.Status.TheVariants as status
+use Rattle.spec_machine.specs.Answers.{ran, mocked}
+use Rattle.spec_machine.specs.Mock.{move, moves}
+use Rattle.spec_machine.specs.Moves.{own_call}
+use Rattle.spec_machine.specs.Preparing.{prepared}
+use Rattle.spec_machine.specs.Trace.{run}
 use Rattle.mock_backend.specs.Due.{answer_to, due}
 
 -- all that it is computed by is opened: what reads, and then what runs

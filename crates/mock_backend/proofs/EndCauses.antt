@@ -5,20 +5,20 @@ use Rattle.std.proofs.lemmas.Bool.{false≢true}
 use Rattle.eio_value.specs.declared.raised.Outcome.{Outcome}
 use Rattle.eio_value.specs.declared.raised.Outcome.TheVariants as outcome
 use Rattle.eio_value.specs.declared.raised.Raised.{Raised}
-use Rattle.row_model.specs.Timers.{Timer}
-use Rattle.script_model.specs.Inputs.{mocked_script}
-use Rattle.script_model.specs.Refusals.{Refusal}
-use Rattle.script_model.specs.Scripts.{Script}
-use Rattle.trace_out.specs.declared.status.Status.{Status}
-use Rattle.trace_out.specs.declared.status.Status.TheVariants as status
+use Rattle.spec_parts.specs.Timers.{Timer}
+use Rattle.spec_script.specs.Inputs.{mocked_script}
+use Rattle.spec_script.specs.Refusals.{Refusal}
+use Rattle.spec_script.specs.Scripts.{Script}
+use Rattle.trace_lines.specs.declared.status.Status.{Status}
+use Rattle.trace_lines.specs.declared.status.Status.TheVariants as status
 use Rattle.trace_out.specs.Input.{ReadsInput}
-use Rattle.machine_model.specs.declared.Ending.{Ending}
-use Rattle.machine_model.specs.declared.Ending.TheVariants as ending
-use Rattle.machine_model.specs.Answers.{Answer, ended, ran, ran_if}
-use Rattle.machine_model.specs.Domain.{Duty, DomainState}
-use Rattle.machine_model.specs.Mock.{Mock, Moved, move, can_move, has_any}
-use Rattle.machine_model.specs.Trace.{body_end, ending_by, ending_in, run}
-use Rattle.run_laws.proofs.Moves.{moves_where_something_is_left}
+use Rattle.spec_machine.specs.declared.Ending.{Ending}
+use Rattle.spec_machine.specs.declared.Ending.TheVariants as ending
+use Rattle.spec_machine.specs.Answers.{Answer, ended, ran, ran_if}
+use Rattle.spec_machine.specs.Domain.{Duty, DomainState}
+use Rattle.spec_machine.specs.Mock.{Mock, Moved, move, can_move, has_any}
+use Rattle.spec_machine.specs.Trace.{body_end, ending_by, ending_in, run}
+use Rattle.law_run.proofs.Moves.{moves_where_something_is_left}
 use Rattle.mock_backend.specs.Causes.{IsAtRest, EndsRaised, IsStuck, RunsTo, IsFault, ComesExactlyOf}
 use Rattle.mock_backend.specs.Due.{answer_to}
 use Rattle.mock_backend.specs.Today.{built_today}

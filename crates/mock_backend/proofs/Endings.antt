@@ -3,14 +3,14 @@ use Rattle.std.proofs.Common.{◌≡◌, ℕ, List, [], Bool, true, false, Optio
 use Rattle.std.specs.Prelude.{is_some}
 use Rattle.std.proofs.lemmas.Bool.{false≢true}
 use Rattle.eio_value.specs.declared.raised.Outcome.{Outcome}
-use Rattle.script_model.specs.Scripts.{Script}
-use Rattle.machine_model.specs.declared.Ending.{Ending}
-use Rattle.machine_model.specs.declared.Ending.TheVariants as ending
-use Rattle.machine_model.specs.Mock.{Mock, Moved, move, can_move}
-use Rattle.machine_model.specs.Trace.{body_end, ending_by, ending_in}
+use Rattle.spec_script.specs.Scripts.{Script}
+use Rattle.spec_machine.specs.declared.Ending.{Ending}
+use Rattle.spec_machine.specs.declared.Ending.TheVariants as ending
+use Rattle.spec_machine.specs.Mock.{Mock, Moved, move, can_move}
+use Rattle.spec_machine.specs.Trace.{body_end, ending_by, ending_in}
 use Rattle.domain_core.specs.Keeping.{KeptDomain}
 use Rattle.domain_core.specs.Turns.{StandsFor}
-use Rattle.run_laws.proofs.Moves.{moves_where_something_is_left}
+use Rattle.law_run.proofs.Moves.{moves_where_something_is_left}
 
 module _ (script : Script) (m : Mock) where
   by_move : Option Moved → Ending

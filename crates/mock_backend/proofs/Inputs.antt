@@ -1,27 +1,27 @@
 -- The script of an input that `mock` runs, or why it is refused.
 use Rattle.std.proofs.Common.{◌≡◌, ℕ, ◌<◌, List, [], ◌++◌, length, Option, Some, None, Result, Ok, Err, refl, ap, sym, subst, ◌∙◌}
 use Rattle.std.specs.Prelude.{IfErr}
-use Rattle.script_model.specs.Faults as model
-use Rattle.script_model.specs.Inputs.{input_script, unless_at, mocked_script}
-use Rattle.script_model.specs.RefusedForms.{domain_only, unbuilt}
-use Rattle.script_model.specs.Refusals.{Refusal, TooLong, NoTree, NoScript, MockOnly, DomainOnly, Unbuilt, or_refused, refusal_line}
-use Rattle.script_model.specs.Results.{◌>>=◌}
-use Rattle.script_model.specs.Scripts.{Script, script_of}
-use Rattle.script_model.specs.Trees.{Tree}
+use Rattle.spec_script.specs.Faults as model
+use Rattle.spec_script.specs.Inputs.{input_script, unless_at, mocked_script}
+use Rattle.spec_script.specs.RefusedForms.{domain_only, unbuilt}
+use Rattle.spec_script.specs.Refusals.{Refusal, TooLong, NoTree, NoScript, MockOnly, DomainOnly, Unbuilt, or_refused, refusal_line}
+use Rattle.spec_script.specs.Results.{◌>>=◌}
+use Rattle.spec_script.specs.Scripts.{Script, script_of}
+use Rattle.spec_script.specs.Trees.{Tree}
 use Rattle.script_code.proofs.ScriptNumbers.{script_has_numbers}
-use Rattle.step_model.specs.Numbered.{blocks_from}
+use Rattle.spec_fiber.specs.Numbered.{blocks_from}
 use Rattle.script_code.specs.Numbered.{HasNumbers}
 use Rattle.std.specs.List.{flat_map, All}
 use Rattle.std.proofs.lemmas.List.Elements.{All-contains_itself}
-use Rattle.block_laws.proofs.Finding.{blocks_by_number}
-use Rattle.form_laws.proofs.NextLists.{mocked_group_forms}
-use Rattle.kind_laws.specs.Kinds.{IsOfScript}
-use Rattle.script_laws.proofs.Commands.{mocked_is_sound}
-use Rattle.text_laws.proofs.ReadScripts.{read_scripts_have_texts}
-use Rattle.well_laws.specs.WellStates.{IsRunnable}
+use Rattle.fiber_step.proofs.Blocks.Finding.{blocks_by_number}
+use Rattle.law_domain.proofs.Forms.NextLists.{mocked_group_forms}
+use Rattle.law_fiber.specs.Kinded.Kinds.{IsOfScript}
+use Rattle.law_script.proofs.Scripts.Commands.{mocked_is_sound}
+use Rattle.law_fiber.proofs.Texts.ReadScripts.{read_scripts_have_texts}
+use Rattle.law_domain.specs.Well.WellStates.{IsRunnable}
 use Rattle.mock_backend.specs.Today.{built_today}
-use Rattle.script_laws.proofs.Scripts.{script_is_read}
-use Rattle.tree_laws.proofs.Steps.{same_Ok, err-ok, both_gave}
+use Rattle.law_script.proofs.Scripts.Scripts.{script_is_read}
+use Rattle.law_script.proofs.Trees.Steps.{same_Ok, err-ok, both_gave}
 use Rattle.script_input.proofs.Fronts.{tree_front}
 use Rattle.script_input.specs.declared.fault.InputFault.{InputFault}
 use Rattle.script_input.specs.declared.fault.InputFault.TheVariants as fault

@@ -11,28 +11,28 @@ use Rattle.std.proofs.lemmas.List.Elements.{All-from_recursion}
 use Rattle.eio_value.specs.declared.value.TextId.{TextId}
 use Rattle.eio_value.specs.Table.{HasText}
 use Rattle.script_code.specs.Texted.{IsAmong}
-use Rattle.script_model.specs.Opening.{opening_texts}
-use Rattle.script_model.specs.Scripts.{Script}
-use Rattle.script_model.specs.Syntax.{Block, Begins, Done}
-use Rattle.trace_out.specs.declared.line.Line.{Line}
+use Rattle.spec_script.specs.Opening.{opening_texts}
+use Rattle.spec_script.specs.Scripts.{Script}
+use Rattle.spec_script.specs.Syntax.{Block, Begins, Done}
+use Rattle.trace_lines.specs.declared.line.Line.{Line}
 use Rattle.trace_out.specs.Causes.{AppendsFront}
-use Rattle.trace_out.specs.TraceTexts.{CanTrace, trace_text}
+use Rattle.trace_lines.specs.TraceTexts.{CanTrace, trace_text}
 use Rattle.trace_out.proofs.Appended.{front_of_whole, front_after, front_longer}
-use Rattle.machine_model.specs.Domain.{DomainState}
-use Rattle.machine_model.specs.Labels.{Label, Inner, Called, Struck, Mocked, Took}
-use Rattle.machine_model.specs.Mock.{Mock, Moved, move, moves, opening, opening_domain, first_body}
-use Rattle.machine_model.specs.Moves.{after, line_of}
-use Rattle.machine_model.specs.Runs.{Fits, Noted}
-use Rattle.machine_model.specs.Trace.{run, trace, written_by, last_after}
+use Rattle.spec_machine.specs.Domain.{DomainState}
+use Rattle.spec_machine.specs.Labels.{Label, Inner, Called, Struck, Mocked, Took}
+use Rattle.spec_machine.specs.Mock.{Mock, Moved, move, moves, opening, opening_domain, first_body}
+use Rattle.spec_machine.specs.Moves.{after, line_of}
+use Rattle.spec_machine.specs.Runs.{Fits, Noted}
+use Rattle.spec_machine.specs.Trace.{run, trace, written_by, last_after}
 use Rattle.fiber_step.specs.Throwing.{IsGrown}
 use Rattle.domain_core.specs.declared.turn.Turn.TheVariants as turn
 use Rattle.domain_core.specs.Keeping.{KeptDomain}
 use Rattle.domain_core.specs.Turns.{StandsFor, Starts, Came, MovesTo, Turns}
-use Rattle.domain_laws.specs.Laws.{body_of}
-use Rattle.text_laws.specs.DomainLaws.{MovesTexted}
-use Rattle.text_laws.proofs.Moving.{known_have_texts}
-use Rattle.well_laws.specs.WellStates.{IsRunnable, StandsWell}
-use Rattle.well_laws.proofs.Standing.{moves_tell_known}
+use Rattle.law_domain.specs.Sound.Laws.{body_of}
+use Rattle.law_domain.specs.Texts.DomainLaws.{MovesTexted}
+use Rattle.law_domain.proofs.Texts.Moving.{known_have_texts}
+use Rattle.law_domain.specs.Well.WellStates.{IsRunnable, StandsWell}
+use Rattle.law_domain.proofs.Well.Standing.{moves_tell_known}
 use Rattle.mock_backend.specs.declared.fault.RunFault.{RunFault}
 use Rattle.mock_backend.specs.declared.local.Local.{Local}
 use Rattle.mock_backend.specs.Faults.{HasRunCause, RoseAtFault, WritesText}

@@ -1,10 +1,10 @@
 -- A run, move by move; and a move of a domain that asks nothing of what is outside.
 use Rattle.std.proofs.Common.{◌≡◌, ℕ, zero, suc, ◌+◌, true, false, List, [], ◌∷◌, Option, Some, None, refl, ap, ◌∙◌}
-use Rattle.script_model.specs.Scripts.{Script}
-use Rattle.machine_model.specs.Labels.{Asks, Idle, Own, Inner}
-use Rattle.machine_model.specs.Mock.{Mock, Moved, comes, moved_by, move_by, move, moves}
-use Rattle.machine_model.specs.Moves.{asks, after, line_of, stepped_by, own_move}
-use Rattle.machine_model.specs.Preparing.{prepared}
+use Rattle.spec_script.specs.Scripts.{Script}
+use Rattle.spec_machine.specs.Labels.{Asks, Idle, Own, Inner}
+use Rattle.spec_machine.specs.Mock.{Mock, Moved, comes, moved_by, move_by, move, moves}
+use Rattle.spec_machine.specs.Moves.{asks, after, line_of, stepped_by, own_move}
+use Rattle.spec_machine.specs.Preparing.{prepared}
 
 -- ## Lists of moves
 

@@ -1,12 +1,12 @@
 -- The end of a run in code: what was written is its whole text, and it ended as the definitions say.
 use Rattle.std.proofs.Common.{◌≡◌, ℕ, ◌≤◌, List, Option, Result, Ok, Err, refl, ap, sym, ◌∙◌, subst, arith}
 use Rattle.std.specs.Prelude.{IfOk, ◌↔◌}
-use Rattle.script_model.specs.Scripts.{Script}
-use Rattle.machine_model.specs.declared.Ending.{Ending}
-use Rattle.machine_model.specs.declared.Ending.TheVariants as ending
-use Rattle.machine_model.specs.Answers.{ran}
-use Rattle.machine_model.specs.Mock.{Mock}
-use Rattle.machine_model.specs.Trace.{run, ending_in, last_line}
+use Rattle.spec_script.specs.Scripts.{Script}
+use Rattle.spec_machine.specs.declared.Ending.{Ending}
+use Rattle.spec_machine.specs.declared.Ending.TheVariants as ending
+use Rattle.spec_machine.specs.Answers.{ran}
+use Rattle.spec_machine.specs.Mock.{Mock}
+use Rattle.spec_machine.specs.Trace.{run, ending_in, last_line}
 use Rattle.domain_core.specs.Keeping.{KeptDomain}
 use Rattle.domain_core.specs.Turns.{StandsFor}
 use Rattle.mock_backend.specs.declared.fault.RunFault.{RunFault}

@@ -2,12 +2,12 @@
 use Rattle.std.specs.Prelude.{◌≡◌, ◌⊎◌, ℕ, false, List, [], Some, None, Ok}
 use Rattle.eio_value.specs.declared.raised.Outcome.TheVariants as outcome
 use Rattle.eio_value.specs.declared.raised.Raised.{Raised}
-use Rattle.machine_model.specs.Domain.{DomainState}
-use Rattle.machine_model.specs.Trace.{body_end, run}
-use Rattle.script_model.specs.Inputs.{mocked_script}
-use Rattle.script_model.specs.Scripts.{Script}
-use Rattle.trace_out.specs.declared.status.Status.{Status}
-use Rattle.trace_out.specs.declared.status.Status.TheVariants as status
+use Rattle.spec_machine.specs.Domain.{DomainState}
+use Rattle.spec_machine.specs.Trace.{body_end, run}
+use Rattle.spec_script.specs.Inputs.{mocked_script}
+use Rattle.spec_script.specs.Scripts.{Script}
+use Rattle.trace_lines.specs.declared.status.Status.{Status}
+use Rattle.trace_lines.specs.declared.status.Status.TheVariants as status
 use Rattle.mock_backend.specs.Today.{built_today}
 
 -- ## States

@@ -1,7 +1,7 @@
 -- What is due to an input of the command `mock`.
 use Rattle.std.specs.Prelude.{ℕ, List}
 use Rattle.trace_out.specs.Outcome.{Due}
-use Rattle.machine_model.specs.Answers.{Answer, ended, mocked}
+use Rattle.spec_machine.specs.Answers.{Answer, ended, mocked}
 use Rattle.mock_backend.specs.Today.{built_today}
 
 -- the text of an answer, and the status of its ending

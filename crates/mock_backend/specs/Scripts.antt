@@ -2,8 +2,8 @@
 use Rattle.std.specs.Prelude.{ℕ, List}
 use Rattle.domain_core.specs.Keeping.{KeptDomain}
 use Rattle.domain_core.specs.Turns.{StandsForSome}
-use Rattle.script_model.specs.Scripts.{Script}
-use Rattle.well_laws.specs.WellStates.{IsRunnable}
+use Rattle.spec_script.specs.Scripts.{Script}
+use Rattle.law_domain.specs.Well.WellStates.{IsRunnable}
 
 -- what is kept stands for some domain of a script that can be run
 pub record IsOfRun (texts : List (List ℕ)) (kept : KeptDomain) : Type 0 where

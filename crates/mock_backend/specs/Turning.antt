@@ -1,8 +1,8 @@
 -- What a turn over the objects of a mocked domain is to the machine that is written down.
 use Rattle.std.specs.Prelude.{◌≡◌, ℕ, ◌+◌, List, Some, None}
-use Rattle.script_model.specs.Scripts.{Script}
-use Rattle.trace_out.specs.declared.line.Line.{Line}
-use Rattle.machine_model.specs.Mock.{Mock, Moved as Made, move}
+use Rattle.spec_script.specs.Scripts.{Script}
+use Rattle.trace_lines.specs.declared.line.Line.{Line}
+use Rattle.spec_machine.specs.Mock.{Mock, Moved as Made, move}
 use Rattle.domain_core.specs.declared.turn.Turn.{Turn}
 use Rattle.domain_core.specs.declared.turn.Turn.TheVariants.{Moved, Idle, Spent, Halted}
 use Rattle.domain_core.specs.Keeping.{KeptDomain}

@@ -2,7 +2,7 @@
 //!
 //! [`mock_run`] goes from a source's bytes to a sink's and a status. [`script`] makes the script of an input, or finds why it is refused;
 //! [`run`] turns a [`Domain`](domain_core::Domain) until it stands still, over the objects of [`local`]; [`respond`] joins these. Each says
-//! in its contract what the definitions of `script_model` and `machine_model` give.
+//! in its contract what the definitions of `spec_script` and `spec_machine` give.
 #![tactic(auto)]
 
 mod fault;

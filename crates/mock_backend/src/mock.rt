@@ -2,14 +2,14 @@
 //!
 //! [`mock_run`] says what is read, what is written and which status is answered, for every source and sink.
 ghost use Rattle.std.specs.Prelude.{◌≡◌, ◌≢◌, ◌<◌, ◌≤◌, IfSome};
-ghost use Rattle.machine_model.specs.Answers.{ended};
+ghost use Rattle.spec_machine.specs.Answers.{ended};
 ghost use Rattle.trace_out.specs.Outcome.{ReadsFor, WritesFor, HasItsCause};
 ghost use Rattle.mock_backend.specs.Causes.{ComesExactlyOf, EndsRaised, IsStuck, RunsTo};
 ghost use Rattle.mock_backend.specs.Due.{answer_to, due};
 
 use crate::fault::RunFault;
 use crate::respond::respond;
-use machine_model::Ending;
+use spec_machine::Ending;
 use std::alloc::Global;
 use trace_out::{InputError, Sink, Source, Status, read_input};
 

@@ -2,12 +2,12 @@
 //! a form that isn't built.
 ghost use Rattle.std.specs.Prelude.{◌≡◌, Ok, IfOk, IfErr};
 ghost use Rattle.mock_backend.specs.Today.{built_today};
-ghost use Rattle.script_model.specs.Inputs as inputs;
+ghost use Rattle.spec_script.specs.Inputs as inputs;
 ghost use Rattle.script_input.specs.Refusals.{Refuses};
 
 use script_input::{InputFault, Kind, Refusal, input_script};
 use script_code::Script;
-use script_model::Feature;
+use spec_script::Feature;
 use std::alloc::Global;
 
 /// The script that an input is, where `mock` runs it.

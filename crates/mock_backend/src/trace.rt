@@ -1,7 +1,7 @@
 //! The lines of the trace.
 ghost use Rattle.std.specs.Prelude.{All};
 ghost use Rattle.eio_value.specs.Table.{HasText};
-ghost use Rattle.trace_out.specs.TraceTexts.{CanTrace, trace_text};
+ghost use Rattle.trace_lines.specs.TraceTexts.{CanTrace, trace_text};
 ghost use Rattle.mock_backend.specs.Faults.{HasRunCause, WritesText};
 
 use crate::fault::RunFault;

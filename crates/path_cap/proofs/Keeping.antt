@@ -5,9 +5,9 @@ use Rattle.std.proofs.lemmas.Option.{unwrap_or-slice_get}
 use Rattle.std.specs.Prelude.{Result, slice_set, OnOk, OnErr}
 use Rattle.eio_value.specs.declared.plain.PathFault.{PathFault}
 use Rattle.eio_value.specs.declared.plain.PathFault.TheVariants.{NotEmpty}
-use Rattle.row_model.specs.Directories.{Tree, File, Directory, directory, directory_at, gone, put, dropped, put_directory, removed_directory}
-use Rattle.row_model.specs.Walk.{Step, Leads, ToDirectory, ToFile, ToLink, ToNothing, Refused, resolve}
-use Rattle.row_model.specs.PathCalls.{saved, made, unlinked, emptied, directory_removed, tree_after}
+use Rattle.spec_parts.specs.Directories.{Tree, File, Directory, directory, directory_at, gone, put, dropped, put_directory, removed_directory}
+use Rattle.spec_parts.specs.Walk.{Step, Leads, ToDirectory, ToFile, ToLink, ToNothing, Refused, resolve}
+use Rattle.spec_parts.specs.PathCalls.{saved, made, unlinked, emptied, directory_removed, tree_after}
 use Rattle.path_cap.specs.Below.{IsBelow, IsWay, KeepsOutside}
 use Rattle.path_cap.specs.Changes.{Change, Save, SaveNew, Mkdir, Unlink, Rmdir, after, answer}
 use Rattle.path_cap.specs.Laws.{LeadsBelow}

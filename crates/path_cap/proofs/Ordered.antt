@@ -8,9 +8,9 @@ use Rattle.std.specs.Cmp.Lexicographic.{slice_cmp, nat_list_cmp_total}
 use Rattle.eio_value.specs.Directory as scripted
 use Rattle.eio_value.specs.declared.plain.PathFault.{PathFault}
 use Rattle.eio_value.specs.declared.plain.PathFault.TheVariants.{NotEmpty}
-use Rattle.row_model.specs.Directories.{Tree, Held, File, Link, Inner, Entry, Directory, entry, directory, directory_at, gone, with_entry, put, dropped, put_directory, removed_directory, placed, placed_item}
-use Rattle.row_model.specs.Walk.{Step, Leads, ToDirectory, ToFile, ToLink, ToNothing, Refused, resolve}
-use Rattle.row_model.specs.PathCalls.{saved, made, unlinked, emptied, directory_removed, tree_after}
+use Rattle.spec_parts.specs.Directories.{Tree, Held, File, Link, Inner, Entry, Directory, entry, directory, directory_at, gone, with_entry, put, dropped, put_directory, removed_directory, placed, placed_item}
+use Rattle.spec_parts.specs.Walk.{Step, Leads, ToDirectory, ToFile, ToLink, ToNothing, Refused, resolve}
+use Rattle.spec_parts.specs.PathCalls.{saved, made, unlinked, emptied, directory_removed, tree_after}
 use Rattle.path_cap.specs.Changes.{Change, Save, SaveNew, Mkdir, Unlink, Rmdir, after}
 use Rattle.path_cap.specs.Order.{ComesFirst, IsInOrder, AreInOrder}
 

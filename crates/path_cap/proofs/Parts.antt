@@ -1,7 +1,7 @@
 -- The parts of a path that ask for something are its components.
 use Rattle.std.proofs.Common.{ℕ, List}
 use Rattle.std.specs.Prelude.{filter, not}
-use Rattle.row_model.specs.Walk.{asks_nothing}
+use Rattle.spec_parts.specs.Walk.{asks_nothing}
 
 -- the parts that ask for something
 abbrev pub asking : List (List ℕ) → List (List ℕ)

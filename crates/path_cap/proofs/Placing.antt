@@ -6,7 +6,7 @@ use Rattle.eio_value.specs.EntriesInside.{directory_of, item_of}
 use Rattle.eio_value.specs.declared.entry.Entry.{Entry}
 use Rattle.eio_value.specs.Directory.{Directory}
 use Rattle.eio_value.specs.declared.entry.Entry.TheVariants as code
-use Rattle.row_model.specs.Directories.{Tree, File, Link, directory, put, put_directory, placed, placed_item}
+use Rattle.spec_parts.specs.Directories.{Tree, File, Link, directory, put, put_directory, placed, placed_item}
 
 -- the entries from a place on are the one there and those behind it
 cut : (entries : List Entry) (i : ℕ) (entry : Entry) → i < length entries → entry ≡ get_or entries i entry → drop i entries ≡ entry ∷ drop (i + 1) entries

@@ -6,7 +6,7 @@ use Rattle.std.specs.declared.cmp.Ordering.{Ordering}
 use Rattle.std.specs.declared.cmp.Ordering.TheVariants.{Less, Equal, Greater}
 use Rattle.std.specs.Ordering.{nat_cmp}
 use Rattle.std.specs.Cmp.Lexicographic.{slice_cmp}
-use Rattle.row_model.specs.Directories.{Entry, with_entry}
+use Rattle.spec_parts.specs.Directories.{Entry, with_entry}
 
 over_first : (new old : Entry) (others : List Entry) → slice_cmp nat_cmp new.name old.name ≡ Equal → with_entry new (old ∷ others) ≡ new ∷ others
 over_first new old others same = ap (λ (o : Ordering). elim o [ Less ↦ new ∷ old ∷ others | Equal ↦ new ∷ others | Greater ↦ old ∷ with_entry new others ]) same

@@ -1,7 +1,7 @@
 -- The walk, one component at a time.
 use Rattle.std.proofs.Common.{◌≡◌, ℕ, zero, suc, Bool, true, false, List, [], ◌∷◌, Option, Some, None, refl, ap, sym, ◌∙◌, ◌||◌, not, ◌↔◌, true≢false}
-use Rattle.row_model.specs.Directories.{Tree, Held, File, Link, Inner, directory_at, held_by}
-use Rattle.row_model.specs.Walk.{Step, Place, Leads, ToDirectory, ToNothing, Refused, is_up, goes_up, goes_down, meets_nothing, meets_file, meets_link, along, walk}
+use Rattle.spec_parts.specs.Directories.{Tree, Held, File, Link, Inner, directory_at, held_by}
+use Rattle.spec_parts.specs.Walk.{Step, Place, Leads, ToDirectory, ToNothing, Refused, is_up, goes_up, goes_down, meets_nothing, meets_file, meets_link, along, walk}
 use Rattle.std.specs.Prelude.{IsTrue}
 use Rattle.eio_value.specs.declared.plain.PathFault.TheVariants.{NotFound, NotDirectory}
 use Rattle.path_cap.specs.Nodes.{held_of}

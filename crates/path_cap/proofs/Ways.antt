@@ -1,9 +1,9 @@
 -- The walk keeps the way down: each directory on it is an inner entry of the one before, from the capability down.
 use Rattle.std.proofs.Common.{◌≡◌, ℕ, zero, suc, Bool, true, false, List, [], ◌∷◌, ◌++◌, Some, None, Ok, refl, sym, subst}
 use Rattle.eio_value.specs.declared.plain.PathFault.TheVariants.{PermissionDenied, NotFound, TooManyLinks}
-use Rattle.row_model.specs.Directories.{Tree, File, Link, Inner, directory_at, held_by}
-use Rattle.row_model.specs.Walk.{Step, Place, Leads, ToDirectory, ToFile, ToLink, ToNothing, Refused, goes_up, goes_down, meets_nothing, meets_file, meets_link, is_up, is_absolute, components, along, onto, walk, resolve}
-use Rattle.row_model.specs.PathCalls.{opened}
+use Rattle.spec_parts.specs.Directories.{Tree, File, Link, Inner, directory_at, held_by}
+use Rattle.spec_parts.specs.Walk.{Step, Place, Leads, ToDirectory, ToFile, ToLink, ToNothing, Refused, goes_up, goes_down, meets_nothing, meets_file, meets_link, is_up, is_absolute, components, along, onto, walk, resolve}
+use Rattle.spec_parts.specs.PathCalls.{opened}
 use Rattle.path_cap.specs.Below.{IsBelow, Itself, Under, IsWay}
 use Rattle.path_cap.specs.Laws.{LeadsBelow}
 

@@ -1,7 +1,7 @@
 -- Which directories lie at or below one.
 use Rattle.std.specs.Prelude.{◌≡◌, ℕ, ◌<◌, List, [], ◌∷◌, length, Some}
-use Rattle.row_model.specs.Directories.{Tree, Inner, directory_at, held_by}
-use Rattle.row_model.specs.Walk.{Step}
+use Rattle.spec_parts.specs.Directories.{Tree, Inner, directory_at, held_by}
+use Rattle.spec_parts.specs.Walk.{Step}
 
 -- a directory stands right in another, under this name
 abbrev pub StandsIn : Tree → (above : ℕ) → (name : List ℕ) → (directory : ℕ) → Type 0

@@ -1,8 +1,8 @@
 -- The calls that may change a tree, as one type.
 use Rattle.std.specs.Prelude.{ℕ, Bool, true, false, List, Result}
 use Rattle.eio_value.specs.declared.plain.PathFault.{PathFault}
-use Rattle.row_model.specs.Directories.{Tree}
-use Rattle.row_model.specs.PathCalls as calls
+use Rattle.spec_parts.specs.Directories.{Tree}
+use Rattle.spec_parts.specs.PathCalls as calls
 
 pub data Change : Type 0 where
   Save : (path content : List ℕ) → Change

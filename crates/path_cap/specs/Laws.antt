@@ -1,9 +1,9 @@
 -- What holds of every path call through a capability, whatever the tree, its links and the path.
 use Rattle.std.specs.Prelude.{◌≡◌, ℕ, Bool, List, Some, None, Ok, Err}
 use Rattle.eio_value.specs.declared.plain.PathFault.{PathFault}
-use Rattle.row_model.specs.Directories.{Tree, File, Link, directory_at, held_by}
-use Rattle.row_model.specs.Walk.{Leads, ToDirectory, ToFile, ToLink, ToNothing, Refused, resolve}
-use Rattle.row_model.specs.PathCalls.{open_dir}
+use Rattle.spec_parts.specs.Directories.{Tree, File, Link, directory_at, held_by}
+use Rattle.spec_parts.specs.Walk.{Leads, ToDirectory, ToFile, ToLink, ToNothing, Refused, resolve}
+use Rattle.spec_parts.specs.PathCalls.{open_dir}
 use Rattle.path_cap.specs.Below.{IsBelow, IsWay, KeepsOutside}
 use Rattle.path_cap.specs.Changes.{Change, answer, after}
 

@@ -1,8 +1,8 @@
 -- Where a path leads in code, as the definitions see it.
 use Rattle.std.specs.Prelude.{ℕ, zero, suc, Bool, List, [], Option, Some}
 use Rattle.eio_value.specs.declared.plain.PathFault.TheVariants.{TooManyLinks}
-use Rattle.row_model.specs.Directories.{Tree, Held, File, Link, directory_at, held_by}
-use Rattle.row_model.specs.Walk as model
+use Rattle.spec_parts.specs.Directories.{Tree, Held, File, Link, directory_at, held_by}
+use Rattle.spec_parts.specs.Walk as model
 use Rattle.path_cap.specs.declared.walk.Leads.{Leads}
 use Rattle.path_cap.specs.declared.walk.Leads.TheVariants as leads
 

@@ -1,5 +1,5 @@
 -- What names stand for in code, as the definitions see it.
-use Rattle.row_model.specs.Directories as model
+use Rattle.spec_parts.specs.Directories as model
 use Rattle.path_cap.specs.declared.item.Node.{Node}
 use Rattle.path_cap.specs.declared.item.Node.TheVariants as node
 

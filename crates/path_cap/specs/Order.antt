@@ -4,7 +4,7 @@ use Rattle.std.specs.declared.cmp.Ordering.TheVariants.{Less}
 use Rattle.std.specs.Ordering.{nat_cmp}
 use Rattle.std.specs.Cmp.Lexicographic.{slice_cmp}
 use Rattle.eio_value.specs.Directory as scripted
-use Rattle.row_model.specs.Directories.{Tree, Entry, directory_at, declared_tree}
+use Rattle.spec_parts.specs.Directories.{Tree, Entry, directory_at, declared_tree}
 use Rattle.path_cap.specs.Changes.{Change, after}
 
 -- a name comes before the names of these entries, in the order of bytes

@@ -3,7 +3,7 @@
 //! each call, and the law `changes_stay_below`.
 
 ghost use Rattle.std.specs.Prelude.{◌≡◌, ◌<◌, ◌^◌, length, Ok, IfErr, OnOk, OnErr};
-ghost use Rattle.row_model.specs.PathCalls as model;
+ghost use Rattle.spec_parts.specs.PathCalls as model;
 ghost use Rattle.path_cap.specs.Below.{KeepsOutside};
 ghost use Rattle.path_cap.specs.Changes.{saving};
 ghost use Rattle.path_cap.specs.Faults.{Refuses};

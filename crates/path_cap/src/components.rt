@@ -2,7 +2,7 @@
 
 ghost use Rattle.std.specs.List.{slice_split};
 ghost use Rattle.std.specs.Prelude.{◌==◌, map, ◌≡◌, ◌∷◌, ◌++◌, ◌↔◌, [], IsTrue, IfOk, OnOk, MatchOption};
-ghost use Rattle.row_model.specs.Walk as model;
+ghost use Rattle.spec_parts.specs.Walk as model;
 
 use eio_value::{Bytes, NoMemory};
 use std::alloc::{AllocError, Global};

@@ -2,7 +2,7 @@
 //! directory. That the names stay in order is the law `names_stay_in_order`.
 
 ghost use Rattle.std.specs.Prelude.{◌≡◌, ◌==◌, length, [], true, false, map, option_map, IfOk, OnOk, OnErr};
-ghost use Rattle.row_model.specs.Directories.{held_by, with_entry, without_entry};
+ghost use Rattle.spec_parts.specs.Directories.{held_by, with_entry, without_entry};
 ghost use Rattle.path_cap.specs.Nodes.{held_of};
 
 use crate::item::{Item, Node};
@@ -18,7 +18,7 @@ pub struct Directory {
 }
 
 impl Model for Directory {
-    ghost use Rattle.row_model.specs.Directories as model;
+    ghost use Rattle.spec_parts.specs.Directories as model;
 
     ghost Value = { model.Directory };
 

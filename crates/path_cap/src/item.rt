@@ -24,7 +24,7 @@ pub struct Item {
 }
 
 impl Model for Item {
-    ghost use Rattle.row_model.specs.Directories.{Entry};
+    ghost use Rattle.spec_parts.specs.Directories.{Entry};
 
     ghost Value = { Entry };
 

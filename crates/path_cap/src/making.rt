@@ -3,7 +3,7 @@
 ghost use Rattle.std.specs.Prelude.{◌≡◌, ◌≤◌, ◌<◌, ◌+◌, ◌^◌, length, IfOk, OnOk};
 ghost use Rattle.eio_value.specs.Directory.{entry_count, item_count};
 ghost use Rattle.eio_value.specs.EntriesInside.{directory_of, item_of};
-ghost use Rattle.row_model.specs.Directories.{declared_tree, placed, placed_item};
+ghost use Rattle.spec_parts.specs.Directories.{declared_tree, placed, placed_item};
 
 use crate::item::Node;
 use crate::tree::DirTree;

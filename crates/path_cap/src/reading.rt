@@ -2,7 +2,7 @@
 //! definition's; where memory runs out nothing is said of the path.
 
 ghost use Rattle.std.specs.Prelude.{◌≡◌, Ok, IfOk, IfErr, map, option_map};
-ghost use Rattle.row_model.specs.PathCalls as model;
+ghost use Rattle.spec_parts.specs.PathCalls as model;
 ghost use Rattle.path_cap.specs.Below.{IsBelow};
 ghost use Rattle.path_cap.specs.Faults.{Refuses};
 
@@ -11,7 +11,7 @@ use crate::item::Node;
 use crate::tree::DirTree;
 use crate::walk::{Leads, resolve};
 use eio_value::{NoMemory, PathFault};
-use row_model::PathKind;
+use spec_parts::PathKind;
 use std::alloc::Global;
 
 impl DirTree {

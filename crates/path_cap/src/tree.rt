@@ -2,8 +2,8 @@
 
 ghost use Rattle.std.specs.Prelude.{◌≡◌, ◌==◌, ◌∷◌, [], ◌<◌, ◌^◌, length, map, option_map, slice_get, IfOk, OnOk, OnErr};
 ghost use Rattle.std.specs.Option.{option_copied};
-ghost use Rattle.row_model.specs.Directories as model;
-ghost use Rattle.row_model.specs.Directories.{directory_at, held_by};
+ghost use Rattle.spec_parts.specs.Directories as model;
+ghost use Rattle.spec_parts.specs.Directories.{directory_at, held_by};
 ghost use Rattle.path_cap.specs.Leading.{content_in};
 ghost use Rattle.path_cap.specs.Nodes.{held_of};
 
@@ -20,7 +20,7 @@ pub struct DirTree {
 }
 
 impl Model for DirTree {
-    ghost use Rattle.row_model.specs.Directories.{Tree};
+    ghost use Rattle.spec_parts.specs.Directories.{Tree};
 
     ghost Value = { Tree };
 

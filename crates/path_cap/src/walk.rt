@@ -4,7 +4,7 @@
 ghost use Rattle.std.specs.Prelude.{◌≡◌, [], ◌||◌, not, slice_get, if◌then◌else◌, IfOk, OnOk};
 ghost use Rattle.std.specs.Option.{option_copied};
 ghost use Rattle.eio_value.specs.declared.plain.PathFault.TheVariants.{PermissionDenied};
-ghost use Rattle.row_model.specs.Walk as model;
+ghost use Rattle.spec_parts.specs.Walk as model;
 ghost use Rattle.path_cap.specs.Leading.{leads_of, by_link};
 
 use crate::components::{Components, is_absolute, is_up};
@@ -25,7 +25,7 @@ pub struct Step {
 }
 
 impl Model for Step {
-    ghost use Rattle.row_model.specs.Walk as model;
+    ghost use Rattle.spec_parts.specs.Walk as model;
 
     ghost Value = { model.Step };
 
@@ -55,7 +55,7 @@ pub struct Place {
 
 impl Model for Place {
     ghost use Rattle.std.specs.Prelude.{reverse};
-    ghost use Rattle.row_model.specs.Walk as model;
+    ghost use Rattle.spec_parts.specs.Walk as model;
 
     ghost Value = { model.Place };
 

@@ -5,8 +5,8 @@ use Rattle.eio_value.specs.declared.call.Answer.TheVariants as answer
 use Rattle.eio_value.specs.declared.plain.Misuse.TheVariants as misuse
 use Rattle.eio_value.specs.declared.plain.Plain.TheVariants as plain
 use Rattle.eio_value.specs.declared.raised.Outcome.{Outcome}
-use Rattle.row_model.specs.Data.{Data, Promise}
-use Rattle.row_model.specs.Row.{done, int, raise}
+use Rattle.spec_parts.specs.Data.{Data, Promise}
+use Rattle.spec_parts.specs.Row.{done, int, raise}
 
 -- the outcome, once it is resolved
 abbrev pub outcome_in : Data → Option Outcome

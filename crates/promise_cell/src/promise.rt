@@ -1,7 +1,7 @@
 //! A promise.
 //!
 //! Until it is resolved fibers are entered and nobody is woken; from then on nobody is entered, and each `next_wake` takes out the dead to which
-//! it comes and the first that is alive. The theorems are the clauses of the methods of [`Promise`], by `row_model`'s `Promises`.
+//! it comes and the first that is alive. The theorems are the clauses of the methods of [`Promise`], by `spec_parts`'s `Promises`.
 
 ghost use Rattle.std.specs.Prelude.{◌≡◌, ◌↔◌, ◌<◌, ◌≤◌, length, ℕ, Bool, true, false, [], None, IfOk, IsSome};
 ghost use Rattle.std.specs.List.{All};
@@ -9,11 +9,11 @@ ghost use Rattle.eio_value.specs.declared.call.Call.TheVariants as call;
 ghost use Rattle.eio_value.specs.declared.message.Waiter.{Waiter as Wait};
 ghost use Rattle.eio_value.specs.declared.value.Value.{Value as Given};
 ghost use Rattle.eio_value.specs.Waking.{IsKnown};
-ghost use Rattle.model_laws.specs.Waits.{HasEachCellOnce};
+ghost use Rattle.law_parts.specs.Waits.{HasEachCellOnce};
 ghost use Rattle.promise_cell.specs.Outcomes.{outcome_in, resolve_answer, try_answer};
-ghost use Rattle.row_model.specs.Objects.{called};
-ghost use Rattle.row_model.specs.Promises as promises;
-ghost use Rattle.row_model.specs.Skipping.{waiters};
+ghost use Rattle.spec_parts.specs.Objects.{called};
+ghost use Rattle.spec_parts.specs.Promises as promises;
+ghost use Rattle.spec_parts.specs.Skipping.{waiters};
 ghost use Rattle.wait_list.specs.Meeting.{Meets};
 
 use eio_value::{Answer, NoMemory, Outcome, Value, Waiter, Wake};
@@ -31,7 +31,7 @@ pub struct Promise {
 }
 
 impl Model for Promise {
-    ghost use Rattle.row_model.specs.Data as held;
+    ghost use Rattle.spec_parts.specs.Data as held;
     ghost use Rattle.wait_list.specs.Lists.{Core, core_of};
 
     ghost Value = { Core };

@@ -6,13 +6,13 @@ use Rattle.eio_value.specs.declared.call.Call.TheVariants as call
 use Rattle.eio_value.specs.declared.message.Waiter.{Waiter}
 use Rattle.eio_value.specs.declared.raised.Outcome.TheVariants as outcome
 use Rattle.eio_value.specs.declared.value.Value.TheVariants as value
-use Rattle.model_laws.specs.Items.{Move, Calls, Strikes}
-use Rattle.model_laws.proofs.Choices.{either_way}
-use Rattle.row_model.specs.Data.{Semaphore}
-use Rattle.row_model.specs.Objects.{called}
-use Rattle.row_model.specs.Row.{Row, Queued, Stepped, Takers, Ignores, Looks, anybody, quiet, done, stepped}
-use Rattle.row_model.specs.Semaphores.{semaphore, greatest_count}
-use Rattle.row_model.specs.Strikes.{struck}
+use Rattle.law_parts.specs.Items.{Move, Calls, Strikes}
+use Rattle.law_parts.proofs.Choices.{either_way}
+use Rattle.spec_parts.specs.Data.{Semaphore}
+use Rattle.spec_parts.specs.Objects.{called}
+use Rattle.spec_parts.specs.Row.{Row, Queued, Stepped, Takers, Ignores, Looks, anybody, quiet, done, stepped}
+use Rattle.spec_parts.specs.Semaphores.{semaphore, greatest_count}
+use Rattle.spec_parts.specs.Strikes.{struck}
 use Rattle.resource_pool.specs.Counting.{left, granted_by, released_by, Counted, counted, CountsWhatIsLeft}
 
 pub record IsSemaphore (row : Row) : Type 0 where

@@ -3,14 +3,14 @@ use Rattle.std.proofs.Common.{◌≡◌, ℕ, Bool, true, false, List, [], ◌�
 use Rattle.eio_value.specs.declared.call.Call.{Call}
 use Rattle.eio_value.specs.declared.call.Call.TheVariants as call
 use Rattle.eio_value.specs.declared.message.Waiter.{Waiter}
-use Rattle.model_laws.specs.Items.{Move, Calls, Strikes}
-use Rattle.row_model.specs.declared.hold.Hold.{Hold}
-use Rattle.row_model.specs.declared.hold.Hold.TheVariants.{Free, Held, Poisoned}
-use Rattle.row_model.specs.Data.{Mutex}
-use Rattle.row_model.specs.Mutexes.{mutex}
-use Rattle.row_model.specs.Objects.{called}
-use Rattle.row_model.specs.Row.{Row, Queued, Stepped}
-use Rattle.row_model.specs.Strikes.{struck}
+use Rattle.law_parts.specs.Items.{Move, Calls, Strikes}
+use Rattle.spec_parts.specs.declared.hold.Hold.{Hold}
+use Rattle.spec_parts.specs.declared.hold.Hold.TheVariants.{Free, Held, Poisoned}
+use Rattle.spec_parts.specs.Data.{Mutex}
+use Rattle.spec_parts.specs.Mutexes.{mutex}
+use Rattle.spec_parts.specs.Objects.{called}
+use Rattle.spec_parts.specs.Row.{Row, Queued, Stepped}
+use Rattle.spec_parts.specs.Strikes.{struck}
 use Rattle.resource_pool.specs.Locking.{Turn, Locks, Unlocks, Poisons, turns_of, turns, AreInTurn, LockedInTurn}
 
 -- the state that turns lead to

@@ -10,13 +10,13 @@ use Rattle.eio_value.specs.declared.call.Call.TheVariants as call
 use Rattle.eio_value.specs.declared.message.Waiter.{Waiter}
 use Rattle.eio_value.specs.declared.raised.Outcome.TheVariants as outcome
 use Rattle.eio_value.specs.declared.value.Value.TheVariants as value
-use Rattle.model_laws.specs.Items.{Move, Calls, Strikes}
-use Rattle.model_laws.proofs.Choices.{either_way}
-use Rattle.row_model.specs.Data.{Data, Pool}
-use Rattle.row_model.specs.Objects.{called}
-use Rattle.row_model.specs.Pools.{pool, is_out, use_last}
-use Rattle.row_model.specs.Row.{Row, Queued, Stepped, Takers, Waits, Ignores, Looks, anybody, quiet, done, int, stepped, otherwise}
-use Rattle.row_model.specs.Strikes.{struck}
+use Rattle.law_parts.specs.Items.{Move, Calls, Strikes}
+use Rattle.law_parts.proofs.Choices.{either_way}
+use Rattle.spec_parts.specs.Data.{Data, Pool}
+use Rattle.spec_parts.specs.Objects.{called}
+use Rattle.spec_parts.specs.Pools.{pool, is_out, use_last}
+use Rattle.spec_parts.specs.Row.{Row, Queued, Stepped, Takers, Waits, Ignores, Looks, anybody, quiet, done, int, stepped, otherwise}
+use Rattle.spec_parts.specs.Strikes.{struck}
 use Rattle.resource_pool.specs.Using.{Turn, Grants, Puts, turns_of, used, AreInTurn, AreIdle, HasIdle, UsedInTurn, IdleStandOnce}
 
 -- Turns

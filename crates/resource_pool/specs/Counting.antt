@@ -6,12 +6,12 @@ use Rattle.eio_value.specs.declared.call.Answer.TheVariants as answer
 use Rattle.eio_value.specs.declared.call.Call.{Call}
 use Rattle.eio_value.specs.declared.call.Call.TheVariants as call
 use Rattle.eio_value.specs.Sending.{Sent}
-use Rattle.model_laws.specs.Items.{Move, Calls, Strikes}
-use Rattle.row_model.specs.Data.{Data, Semaphore}
-use Rattle.row_model.specs.Objects.{called}
-use Rattle.row_model.specs.Row.{Row, Stepped}
-use Rattle.row_model.specs.Semaphores.{semaphore}
-use Rattle.row_model.specs.Strikes.{struck}
+use Rattle.law_parts.specs.Items.{Move, Calls, Strikes}
+use Rattle.spec_parts.specs.Data.{Data, Semaphore}
+use Rattle.spec_parts.specs.Objects.{called}
+use Rattle.spec_parts.specs.Row.{Row, Stepped}
+use Rattle.spec_parts.specs.Semaphores.{semaphore}
+use Rattle.spec_parts.specs.Strikes.{struck}
 
 -- what is left to acquire
 abbrev pub left : Data → ℕ

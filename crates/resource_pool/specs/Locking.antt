@@ -7,13 +7,13 @@ use Rattle.eio_value.specs.declared.call.Call.{Call}
 use Rattle.eio_value.specs.declared.call.Call.TheVariants as call
 use Rattle.eio_value.specs.declared.value.Value.TheVariants as value
 use Rattle.eio_value.specs.Sending.{Sent}
-use Rattle.model_laws.specs.Items.{Move, Calls, Strikes}
-use Rattle.row_model.specs.declared.hold.Hold.{Hold}
-use Rattle.row_model.specs.declared.hold.Hold.TheVariants.{Free, Held, Poisoned}
-use Rattle.row_model.specs.Mutexes.{mutex}
-use Rattle.row_model.specs.Objects.{called}
-use Rattle.row_model.specs.Row.{Row, Stepped}
-use Rattle.row_model.specs.Strikes.{struck}
+use Rattle.law_parts.specs.Items.{Move, Calls, Strikes}
+use Rattle.spec_parts.specs.declared.hold.Hold.{Hold}
+use Rattle.spec_parts.specs.declared.hold.Hold.TheVariants.{Free, Held, Poisoned}
+use Rattle.spec_parts.specs.Mutexes.{mutex}
+use Rattle.spec_parts.specs.Objects.{called}
+use Rattle.spec_parts.specs.Row.{Row, Stepped}
+use Rattle.spec_parts.specs.Strikes.{struck}
 
 -- what happens to a mutex
 pub data Turn : Type 0 where

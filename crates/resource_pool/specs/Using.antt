@@ -10,12 +10,12 @@ use Rattle.eio_value.specs.declared.raised.Outcome.TheVariants as outcome
 use Rattle.eio_value.specs.declared.value.Value.{Value}
 use Rattle.eio_value.specs.declared.value.Value.TheVariants as value
 use Rattle.eio_value.specs.Sending.{Sent, Resumes}
-use Rattle.model_laws.specs.Items.{Move, Calls, Strikes}
-use Rattle.row_model.specs.Data.{Data, Pool}
-use Rattle.row_model.specs.Objects.{called}
-use Rattle.row_model.specs.Pools.{pool, is_out}
-use Rattle.row_model.specs.Row.{Row, Stepped}
-use Rattle.row_model.specs.Strikes.{struck}
+use Rattle.law_parts.specs.Items.{Move, Calls, Strikes}
+use Rattle.spec_parts.specs.Data.{Data, Pool}
+use Rattle.spec_parts.specs.Objects.{called}
+use Rattle.spec_parts.specs.Pools.{pool, is_out}
+use Rattle.spec_parts.specs.Row.{Row, Stepped}
+use Rattle.spec_parts.specs.Strikes.{struck}
 
 -- what happens to resources
 pub data Turn : Type 0 where

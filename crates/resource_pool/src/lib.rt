@@ -2,7 +2,7 @@
 //!
 //! Each is a [`Sem`], a [`Lock`] or a [`Pool`]: its data, and a list of the fibers that wait for it. Whether a fiber in that list still waits isn't
 //! known here, since its wait may have been decided elsewhere; a call that wakes asks the fibers in order, through any `eio_value::Wake`, and the
-//! dead to which it comes leave the list. So a call gives the step of the object's row in `row_model`, on the row without those dead. The theorems
+//! dead to which it comes leave the list. So a call gives the step of the object's row in `spec_parts`, on the row without those dead. The theorems
 //! are the clauses of the methods (`Meets`, where a call takes a `Wake`). All memory is taken by the constructors.
 //!
 //! What holds under any calls of the rows as they are defined is stated in specs/, and stands in src/laws.rt.

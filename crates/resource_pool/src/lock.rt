@@ -1,7 +1,7 @@
 //! A mutex: whether it is free, held or poisoned, and the fibers that wait for it.
 //!
 //! An unlock passes it on to the first waiter that is alive, and frees it only where there is none. Once it is poisoned nobody gets it, and
-//! whoever waits is woken with `Poisoned`, one fiber a call. The theorems are the clauses of the methods of [`Lock`], by `row_model`'s `Mutexes`;
+//! whoever waits is woken with `Poisoned`, one fiber a call. The theorems are the clauses of the methods of [`Lock`], by `spec_parts`'s `Mutexes`;
 //! that at most one fiber has it, whatever is called, is the law [`locked_in_turn`](crate::locked_in_turn).
 
 ghost use Rattle.std.specs.Prelude.{◌≡◌, ◌≢◌, ◌↔◌, ◌<◌, ◌≤◌, ℕ, Bool, true, length, [], None, IfOk};
@@ -12,18 +12,18 @@ ghost use Rattle.eio_value.specs.declared.message.Waiter.{Waiter as Wait};
 ghost use Rattle.eio_value.specs.declared.plain.Misuse.TheVariants as misuse;
 ghost use Rattle.eio_value.specs.declared.plain.Plain.TheVariants as plain;
 ghost use Rattle.eio_value.specs.Waking.{IsKnown};
-ghost use Rattle.model_laws.specs.Waits.{HasEachCellOnce};
-ghost use Rattle.row_model.specs.declared.hold.Hold.TheVariants.{Free, Held, Poisoned};
-ghost use Rattle.row_model.specs.Data.{Mutex};
-ghost use Rattle.row_model.specs.Mutexes.{mutex, raises_poisoned};
-ghost use Rattle.row_model.specs.Objects.{called};
-ghost use Rattle.row_model.specs.Row.{raise, done};
-ghost use Rattle.row_model.specs.Skipping.{waiters};
+ghost use Rattle.law_parts.specs.Waits.{HasEachCellOnce};
+ghost use Rattle.spec_parts.specs.declared.hold.Hold.TheVariants.{Free, Held, Poisoned};
+ghost use Rattle.spec_parts.specs.Data.{Mutex};
+ghost use Rattle.spec_parts.specs.Mutexes.{mutex, raises_poisoned};
+ghost use Rattle.spec_parts.specs.Objects.{called};
+ghost use Rattle.spec_parts.specs.Row.{raise, done};
+ghost use Rattle.spec_parts.specs.Skipping.{waiters};
 ghost use Rattle.wait_list.specs.Meeting.{Meets};
 
 use crate::waiting::wait;
 use eio_value::{Answer, Member, Misuse, NoMemory, Outcome, Plain, Raised, Value, Waiter, Wake};
-use row_model::Hold;
+use spec_parts::Hold;
 use std::alloc::Global;
 use std::marker::Model;
 use wait_list::WaitList;
@@ -37,7 +37,7 @@ pub struct Lock {
 }
 
 impl Model for Lock {
-    ghost use Rattle.row_model.specs.Data.{Mutex};
+    ghost use Rattle.spec_parts.specs.Data.{Mutex};
     ghost use Rattle.wait_list.specs.Lists.{Core, core_of};
 
     ghost Value = { Core };

@@ -2,15 +2,15 @@
 //!
 //! Resources are numbers from 0. One is made only where none is idle and fewer than the pool's size were made. Idle resources are distinct and below the
 //! number that were made (`AreIdle`), so they never need more room than the pool's size. The theorems are the clauses of the methods of [`Pool`], by
-//! `row_model`'s `Pools`; that nobody gets a resource that somebody has, whatever is called, is the law [`used_in_turn`](crate::used_in_turn).
+//! `spec_parts`'s `Pools`; that nobody gets a resource that somebody has, whatever is called, is the law [`used_in_turn`](crate::used_in_turn).
 
 ghost use Rattle.std.specs.Prelude.{◌≡◌, ◌↔◌, ◌<◌, ◌≤◌, ℕ, Bool, false, true, length, None, IfOk};
 ghost use Rattle.eio_value.specs.declared.call.Answer.TheVariants as answer;
 ghost use Rattle.eio_value.specs.declared.call.Call.TheVariants as call;
 ghost use Rattle.eio_value.specs.declared.message.Waiter.{Waiter as Wait};
-ghost use Rattle.model_laws.specs.Waits.{HasEachCellOnce};
-ghost use Rattle.row_model.specs.Objects.{called};
-ghost use Rattle.row_model.specs.Pools.{pool};
+ghost use Rattle.law_parts.specs.Waits.{HasEachCellOnce};
+ghost use Rattle.spec_parts.specs.Objects.{called};
+ghost use Rattle.spec_parts.specs.Pools.{pool};
 ghost use Rattle.resource_pool.specs.Using.{is_out_of};
 ghost use Rattle.wait_list.specs.Meeting.{Meets};
 
@@ -36,7 +36,7 @@ pub struct Pool {
 impl Model for Pool {
     ghost use Rattle.std.specs.Prelude.{◌≤◌};
     ghost use Rattle.std.specs.Vec.{vec_capacity};
-    ghost use Rattle.row_model.specs.Data as rows;
+    ghost use Rattle.spec_parts.specs.Data as rows;
     ghost use Rattle.wait_list.specs.Lists.{Core, core_of};
     ghost use Rattle.resource_pool.specs.Using.{AreIdle};
 

@@ -1,17 +1,17 @@
 //! A semaphore: how many are left to acquire, and the fibers that wait for one.
 //!
 //! A fiber waits only where none is left, and a release counts one more only where no waiter is alive. As waiters are entered behind and asked from
-//! the front, the one that has waited longest gets the next. The theorems are the clauses of the methods of [`Sem`], by `row_model`'s `Semaphores`;
+//! the front, the one that has waited longest gets the next. The theorems are the clauses of the methods of [`Sem`], by `spec_parts`'s `Semaphores`;
 //! what its count is after any calls is the law [`counts_what_is_left`](crate::counts_what_is_left).
 
 ghost use Rattle.std.specs.Prelude.{◌≡◌, ◌↔◌, ◌<◌, ◌≤◌, ℕ, Bool, true, length, None, IfOk};
 ghost use Rattle.eio_value.specs.declared.call.Answer.TheVariants as answer;
 ghost use Rattle.eio_value.specs.declared.call.Call.TheVariants as call;
 ghost use Rattle.eio_value.specs.declared.message.Waiter.{Waiter as Wait};
-ghost use Rattle.model_laws.specs.Waits.{HasEachCellOnce};
-ghost use Rattle.row_model.specs.Data.{Semaphore};
-ghost use Rattle.row_model.specs.Objects.{called};
-ghost use Rattle.row_model.specs.Semaphores.{semaphore, greatest_count};
+ghost use Rattle.law_parts.specs.Waits.{HasEachCellOnce};
+ghost use Rattle.spec_parts.specs.Data.{Semaphore};
+ghost use Rattle.spec_parts.specs.Objects.{called};
+ghost use Rattle.spec_parts.specs.Semaphores.{semaphore, greatest_count};
 ghost use Rattle.wait_list.specs.Meeting.{Meets};
 
 use crate::waiting::wait;
@@ -30,7 +30,7 @@ pub struct Sem {
 }
 
 impl Model for Sem {
-    ghost use Rattle.row_model.specs.Data.{Semaphore};
+    ghost use Rattle.spec_parts.specs.Data.{Semaphore};
     ghost use Rattle.wait_list.specs.Lists.{Core, core_of};
 
     ghost Value = { Core };

@@ -3,8 +3,8 @@
 ghost use Rattle.std.specs.Prelude.{◌≡◌, ◌<◌, if◌then◌else◌, true, None};
 ghost use Rattle.eio_value.specs.declared.call.Answer.TheVariants as answer;
 ghost use Rattle.eio_value.specs.declared.value.Value.TheVariants as value;
-ghost use Rattle.row_model.specs.Data.{Data};
-ghost use Rattle.row_model.specs.Row.{otherwise, Waits, Takers};
+ghost use Rattle.spec_parts.specs.Data.{Data};
+ghost use Rattle.spec_parts.specs.Row.{otherwise, Waits, Takers};
 ghost use Rattle.wait_list.specs.Lists.{core_of};
 
 use eio_value::{Answer, Value, Waiter};

@@ -1,8 +1,8 @@
--- The marks of a cell in the log, the newest first, and its history as `row_model` defines it, the oldest first, are legal alike and show one word.
+-- The marks of a cell in the log, the newest first, and its history as `spec_parts` defines it, the oldest first, are legal alike and show one word.
 use Rattle.std.proofs.Common.{◌≡◌, ℕ, ◌<◌, ◌⊎◌, Bool, true, false, List, [], ◌∷◌, ◌++◌, refl, sym, ap, ◌∙◌, subst, inl, inr, ⊎_elim, Option, Some, None, append_assoc, append-nil, ◌==◌}
 use Rattle.std.specs.Prelude.{if◌then◌else◌}
-use Rattle.row_model.specs.ResumeWords as words
-use Rattle.row_model.specs.ResumeWords.{Arms, Decides}
+use Rattle.spec_parts.specs.ResumeWords as words
+use Rattle.spec_parts.specs.ResumeWords.{Arms, Decides}
 use Rattle.resume_cells.specs.declared.view.Deed.{Deed}
 use Rattle.resume_cells.specs.declared.view.Deed.TheVariants.{Arm, Wake, Cancel}
 use Rattle.resume_cells.specs.declared.view.Mark.{Mark}

@@ -1,6 +1,6 @@
 -- Worked marks, words and histories, computed by the prover.
 use Rattle.std.proofs.Common.{◌≡◌, List, [], ◌∷◌, true, false, refl, inl, inr, arith, Some, None}
-use Rattle.row_model.specs.ResumeWords as words
+use Rattle.spec_parts.specs.ResumeWords as words
 use Rattle.resume_cells.specs.declared.view.Deed.TheVariants.{Wake, Cancel}
 use Rattle.resume_cells.specs.declared.view.Told.{Told}
 use Rattle.resume_cells.specs.declared.cells.Decided.TheVariants.{Won, Lost}

@@ -6,8 +6,8 @@ use Rattle.std.proofs.lemmas.Nat.{div-mul-add}
 use Rattle.std.proofs.Math.Nat.{div-mul-le_self, lt-div-mul-add}
 use mathlib.Core.Logic.{dite}
 use native.Mathlib.Decide.{ℕ_discrete}
-use Rattle.row_model.specs.ResumeWords as words
-use Rattle.row_model.specs.ResumeWords.{Arms, Decides, Woken, Cancelled}
+use Rattle.spec_parts.specs.ResumeWords as words
+use Rattle.spec_parts.specs.ResumeWords.{Arms, Decides, Woken, Cancelled}
 use Rattle.resume_cells.specs.declared.view.Deed.{Deed}
 use Rattle.resume_cells.specs.declared.view.Deed.TheVariants.{Arm, Wake, Cancel}
 use Rattle.resume_cells.specs.declared.view.Mark.{Mark}

@@ -3,8 +3,8 @@ use Rattle.std.proofs.Common.{◌≡◌, ◌≢◌, ℕ, ◌+◌, ◌*◌, ◌/�
 use Rattle.std.specs.Prelude.{if◌then◌else◌}
 use mathlib.Core.Logic.{dite}
 use native.Mathlib.Decide.{ℕ_discrete}
-use Rattle.row_model.specs.ResumeWords as words
-use Rattle.row_model.specs.ResumeWords.{Arms, Decides, Woken, Cancelled}
+use Rattle.spec_parts.specs.ResumeWords as words
+use Rattle.spec_parts.specs.ResumeWords.{Arms, Decides, Woken, Cancelled}
 use Rattle.resume_cells.specs.Known.{waiting}
 use Rattle.resume_cells.specs.Laws.{decisions_of, Begins, IsDecided, DecidedOnce, FoundStays}
 use Rattle.resume_cells.proofs.Cases.{some_is, none-ne-some}

@@ -1,6 +1,6 @@
--- What was, once the cells are closed: each cell has a history, as `row_model` defines it, that fits the words and the seats.
+-- What was, once the cells are closed: each cell has a history, as `spec_parts` defines it, that fits the words and the seats.
 use Rattle.std.specs.Prelude.{◌≡◌, ℕ, ◌<◌, List, [], ◌∷◌, ◌++◌, ◌==◌, length, slice_index, slice_index_or, if◌then◌else◌, Option, Some, None}
-use Rattle.row_model.specs.ResumeWords as words
+use Rattle.spec_parts.specs.ResumeWords as words
 use Rattle.resume_cells.specs.declared.view.Deed.TheVariants.{Arm, Wake, Cancel}
 use Rattle.resume_cells.specs.declared.view.Found.{Found}
 use Rattle.resume_cells.specs.declared.view.Told.{Told}

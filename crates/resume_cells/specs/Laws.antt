@@ -1,6 +1,6 @@
 -- What histories mean for waits and winners.
 use Rattle.std.specs.Prelude.{◌≡◌, ◌≢◌, ◌↔◌, ◌⊎◌, ℕ, ◌+◌, ◌*◌, ◌/◌, ◌<◌, ◌≤◌, true, List, [], ◌∷◌, ◌++◌, ◌==◌, length, Contains, if◌then◌else◌}
-use Rattle.row_model.specs.ResumeWords as words
+use Rattle.spec_parts.specs.ResumeWords as words
 use Rattle.resume_cells.specs.declared.view.Deed.TheVariants.{Arm}
 use Rattle.resume_cells.specs.declared.view.Mark.{Mark}
 use Rattle.resume_cells.specs.declared.view.Found.{Found}

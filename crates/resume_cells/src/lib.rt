@@ -6,7 +6,7 @@
 //!
 //! What is known across threads stands in the seats. A seat is a value of no bytes that is seen as the marks that it made and the words that it
 //! found. The rule (specs/Rule) says that at any time there is one log of all marks, in which each cell has a history as
-//! `row_model` defines it (`ResumeWords`), that fits all words and all seats; each step keeps it. It shows once the cells are closed: the theorem is the
+//! `spec_parts` defines it (`ResumeWords`), that fits all words and all seats; each step keeps it. It shows once the cells are closed: the theorem is the
 //! clause `histories` of [`Cells::close`], and what it means for waits and winners is said by the laws (src/laws.rt).
 #![tactic(auto)]
 

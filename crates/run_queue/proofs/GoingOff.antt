@@ -5,7 +5,7 @@ use Rattle.std.specs.List.{All}
 use Rattle.std.proofs.lemmas.Int.{ints}
 use Rattle.std.proofs.lemmas.List.Elements.{All-nil, All-cons, All-filter}
 use Rattle.std.proofs.lemmas.List.Kept.{AllPairs-cons, AllPairs-filter}
-use Rattle.row_model.specs.Timers.{Timer, Timers, no_timers, put_in, add, is_due, DuePopped, pop_due, remove}
+use Rattle.spec_parts.specs.Timers.{Timer, Timers, no_timers, put_in, add, is_due, DuePopped, pop_due, remove}
 use Rattle.run_queue.specs.Laws.{TimerCall, Adds, Pops, Removes, after_call, after, IsBefore, AreInOrder, AreMade, TimersGoOffInOrder}
 
 earlier : (a b : ℤ) → int_lt a b ≡ true → a <ℤ b

@@ -5,7 +5,7 @@ use Rattle.std.specs.List.{list_any, AllWithin}
 use Rattle.std.specs.List.Sorted.{IsPartitionedBy}
 use Rattle.std.proofs.lemmas.Int.{ints}
 use Rattle.std.proofs.lemmas.Grind.{common_steps}
-use Rattle.row_model.specs.Timers.{put_in}
+use Rattle.spec_parts.specs.Timers.{put_in}
 use Rattle.run_queue.specs.declared.timers.Timer.{Timer}
 use Rattle.run_queue.specs.Order.{timer_of, AreDueFrom, IsInOrder}
 

@@ -1,7 +1,7 @@
 -- A law of the timers under any list of calls.
 use Rattle.std.specs.Prelude.{◌≡◌, ◌⊎◌, ℕ, ◌<◌, ℤ, ◌<ℤ◌, List, [], ◌∷◌}
 use Rattle.std.specs.List.{All, AllPairs}
-use Rattle.row_model.specs.Timers.{Timer, Timers, no_timers, add, pop_due, remove}
+use Rattle.spec_parts.specs.Timers.{Timer, Timers, no_timers, add, pop_due, remove}
 
 -- calls on the timers of one domain
 pub data TimerCall : Type 0 where

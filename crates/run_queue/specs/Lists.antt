@@ -1,6 +1,6 @@
--- What a contract sees of the lists: a list as `row_model` defines it, and the most that may stand in it.
+-- What a contract sees of the lists: a list as `spec_parts` defines it, and the most that may stand in it.
 use Rattle.std.specs.Prelude.{ℕ, List}
-use Rattle.row_model.specs.Timers.{Timers}
+use Rattle.spec_parts.specs.Timers.{Timers}
 
 -- the fibers that can move, the one that moves next first
 pub record ReadyList : Type 0 where

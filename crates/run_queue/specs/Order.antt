@@ -1,6 +1,6 @@
 -- The timers as the code keeps them.
 use Rattle.std.specs.Prelude.{ℤ, ◌≤ℤ◌, List, [], ◌∷◌}
-use Rattle.row_model.specs.Timers.{Timer as Defined}
+use Rattle.spec_parts.specs.Timers.{Timer as Defined}
 use Rattle.run_queue.specs.declared.timers.Timer.{Timer}
 
 -- the definition's timer

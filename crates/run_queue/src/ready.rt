@@ -1,10 +1,10 @@
 //! The ready list: the fibers that can move, the one that moves next first.
 //!
 //! A ring whose capacity is the most that may stand in it, so that a push fails exactly where the list is full. Each call
-//! takes constant time. The theorems are the clauses of the methods of [`Ready`], by `row_model`'s `ReadyList`.
+//! takes constant time. The theorems are the clauses of the methods of [`Ready`], by `spec_parts`'s `ReadyList`.
 
 ghost use Rattle.std.specs.Prelude.{◌≡◌, ◌↔◌, [], IsErr, IsTrue, IfOk, OnOk, OnErr};
-ghost use Rattle.row_model.specs.ReadyList as list;
+ghost use Rattle.spec_parts.specs.ReadyList as list;
 
 use circular_buffer::HeapCircularBuffer;
 use eio_value::{Full, NoMemory};

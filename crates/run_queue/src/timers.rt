@@ -3,10 +3,10 @@
 //! They stand in order of due time and, where that is the same, in order of making (`IsInOrder`), so that the first is the next
 //! to go off. A new timer's place is found by halving, and the timers on its shorter side move by one; the first goes in constant
 //! time; `remove` looks at each. The queue has room for the most that may stand, so that only `new` takes memory.
-//! The theorems are the clauses of the methods of [`Timers`], by `row_model`'s `Timers`.
+//! The theorems are the clauses of the methods of [`Timers`], by `spec_parts`'s `Timers`.
 
 ghost use Rattle.std.specs.Prelude.{◌≡◌, ◌↔◌, ◌<◌, ◌+◌, ◌-◌, ◌^◌, false, IsErr, IsTrue, IfOk, OnOk, OnErr};
-ghost use Rattle.row_model.specs.Timers as list;
+ghost use Rattle.spec_parts.specs.Timers as list;
 
 use eio_value::{Full, NoMemory};
 use std::alloc::Global;

@@ -1,18 +1,18 @@
 -- Of what is read, each block has the number of the node that it begins with. One clause for each form, as it is read.
 use Rattle.std.proofs.Common.{◌≡◌, ℕ, zero, ◌+◌, Bool, true, false, ◌++◌, length, Option, Some, None, Ok, refl, sym, subst, arith}
 use Rattle.std.specs.Prelude.{nat_le}
-use Rattle.script_model.specs.Captures.{slots_of, job_scope}
-use Rattle.script_model.specs.Expressions.{expression}
-use Rattle.script_model.specs.Faults.{Shape, Size}
-use Rattle.script_model.specs.Forms.{Head, LetHead, IfHead, GiveHead, RaiseHead, TryHead, RepeatHead, LoopHead, TraceHead, YieldHead, CheckHead, AwaitCancelHead, SubHead, ProtectHead, CancelHead, SwitchHead, ForkHead, ForkDaemonHead, ForkPromiseHead, FailHead, OnReleaseHead, PairHead, RowHead, ObjectHead, ObjectHeadWith, UseRwHead, UsePoolHead, SubmitHead, SleepHead, NowHead, BufReadHead, ReaderHead, TakeBytesHead, CopyHead, BufWriteHead, PutHead, OpenDirHead, PathHead, SaveHead, Form, form_of}
-use Rattle.script_model.specs.Kinds.{VariableKind, ContextKind, SwitchKind, ReaderKind, WriterKind, CapabilityKind, PromiseKind, MutexKind, PoolKind, ExecutorKind, FlowKind, object_kind, object_kind_with}
-use Rattle.script_model.specs.Limits.{weights, reader_limits, most_branches}
-use Rattle.script_model.specs.Reads.{Made, Reads, ◌>>>◌, gives, refuses, requires_that}
-use Rattle.script_model.specs.Scopes.{Scope}
-use Rattle.script_model.specs.Statements.{form_node, block_of, statements, statement, value, block, branches, form}
-use Rattle.script_model.specs.Syntax as syntax
-use Rattle.script_model.specs.Syntax.{Statement, Block, Begins, Statements, Done, Then, Blocks, NoBlocks, AndBlock}
-use Rattle.script_model.specs.Trees.{Tree, Word, Branch, Trees, Nil, And, place_of}
+use Rattle.spec_script.specs.Captures.{slots_of, job_scope}
+use Rattle.spec_script.specs.Expressions.{expression}
+use Rattle.spec_script.specs.Faults.{Shape, Size}
+use Rattle.spec_script.specs.Forms.{Head, LetHead, IfHead, GiveHead, RaiseHead, TryHead, RepeatHead, LoopHead, TraceHead, YieldHead, CheckHead, AwaitCancelHead, SubHead, ProtectHead, CancelHead, SwitchHead, ForkHead, ForkDaemonHead, ForkPromiseHead, FailHead, OnReleaseHead, PairHead, RowHead, ObjectHead, ObjectHeadWith, UseRwHead, UsePoolHead, SubmitHead, SleepHead, NowHead, BufReadHead, ReaderHead, TakeBytesHead, CopyHead, BufWriteHead, PutHead, OpenDirHead, PathHead, SaveHead, Form, form_of}
+use Rattle.spec_script.specs.Kinds.{VariableKind, ContextKind, SwitchKind, ReaderKind, WriterKind, CapabilityKind, PromiseKind, MutexKind, PoolKind, ExecutorKind, FlowKind, object_kind, object_kind_with}
+use Rattle.spec_script.specs.Limits.{weights, reader_limits, most_branches}
+use Rattle.spec_script.specs.Reads.{Made, Reads, ◌>>>◌, gives, refuses, requires_that}
+use Rattle.spec_script.specs.Scopes.{Scope}
+use Rattle.spec_script.specs.Statements.{form_node, block_of, statements, statement, value, block, branches, form}
+use Rattle.spec_script.specs.Syntax as syntax
+use Rattle.spec_script.specs.Syntax.{Statement, Block, Begins, Statements, Done, Then, Blocks, NoBlocks, AndBlock}
+use Rattle.spec_script.specs.Trees.{Tree, Word, Branch, Trees, Nil, And, place_of}
 use Rattle.script_forms.specs.Flat.{flat_expression, flat_expressions, flat_statement, flat_statements, flat_blocks, flat_block}
 use Rattle.script_code.specs.Numbered.{IsNumbered, IsNumberedBlock, AreNumbered, AreNumberedBlocks}
 use Rattle.script_code.proofs.NodeCounts.{From, given, refused, going_on, moved, past, test_keeps, failure_keeps, number_keeps, bring_keeps, used_keeps, directory_keeps, captured_keeps, node_counts, form_node_counts, alone, with_inner, with_two, two_rows, expression_counts, traced_counts, same_Ok, both_gave}

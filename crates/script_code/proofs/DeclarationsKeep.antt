@@ -6,15 +6,15 @@ use Rattle.std.specs.Str.{bytes_eq}
 use Rattle.eio_value.specs.Directory as directory
 use Rattle.eio_value.specs.Directory.{Item}
 use Rattle.eio_value.specs.declared.flow_step.FlowStep.TheVariants as flow
-use Rattle.script_model.specs.Declarations.{Declaration, Stream, Promise, Semaphore, Mutex, Pool, Executor, Flow, Dir, DeclarationForm, declaration_form_of, workers, items_of, Declared, with_declaration, declare, declaration_by, declaration, declarations_behind}
-use Rattle.script_model.specs.Entries.{EntryHead, FileHead, LinkHead, SubHead, entry_head, is_entry_name, entry_name, content_of, name_of, entries, entry, entry_by}
-use Rattle.script_model.specs.Faults.{Shape, Size, Twice}
-use Rattle.script_model.specs.FlowSteps.{StepHead, DataHead, FaultHead, PauseHead, step_head, data_of, step_by, step, steps}
-use Rattle.script_model.specs.Kinds.{Kind, StreamKind, PromiseKind, SemaphoreKind, MutexKind, PoolKind, ExecutorKind, FlowKind, DirectoryKind}
-use Rattle.script_model.specs.Limits.{most_declarations, most_workers, most_flow_steps, most_entries, capacities, counts, sizes}
-use Rattle.script_model.specs.Reads.{Made, Reads, ◌>>>◌, changes, refuses, requires_that, one_step, one_entry, text_of}
-use Rattle.script_model.specs.Scopes.{named_in}
-use Rattle.script_model.specs.Trees.{Tree, Word, Number, Text, Branch, Trees, Nil, And, place_of}
+use Rattle.spec_script.specs.Declarations.{Declaration, Stream, Promise, Semaphore, Mutex, Pool, Executor, Flow, Dir, DeclarationForm, declaration_form_of, workers, items_of, Declared, with_declaration, declare, declaration_by, declaration, declarations_behind}
+use Rattle.spec_script.specs.Entries.{EntryHead, FileHead, LinkHead, SubHead, entry_head, is_entry_name, entry_name, content_of, name_of, entries, entry, entry_by}
+use Rattle.spec_script.specs.Faults.{Shape, Size, Twice}
+use Rattle.spec_script.specs.FlowSteps.{StepHead, DataHead, FaultHead, PauseHead, step_head, data_of, step_by, step, steps}
+use Rattle.spec_script.specs.Kinds.{Kind, StreamKind, PromiseKind, SemaphoreKind, MutexKind, PoolKind, ExecutorKind, FlowKind, DirectoryKind}
+use Rattle.spec_script.specs.Limits.{most_declarations, most_workers, most_flow_steps, most_entries, capacities, counts, sizes}
+use Rattle.spec_script.specs.Reads.{Made, Reads, ◌>>>◌, changes, refuses, requires_that, one_step, one_entry, text_of}
+use Rattle.spec_script.specs.Scopes.{named_in}
+use Rattle.spec_script.specs.Trees.{Tree, Word, Number, Text, Branch, Trees, Nil, And, place_of}
 use Rattle.script_code.proofs.NodeCounts.{Keeps, changed, kept, none_kept, keeps_on, test_keeps, interned_keeps, number_keeps}
 
 -- a step by what was made before

@@ -1,8 +1,8 @@
 -- Where the numbers of a tree's pieces fit into 64 bits, those of the tree do.
 use Rattle.std.proofs.Common.{List, [], ◌∷◌, ◌++◌}
 use Rattle.std.specs.List.{AllByRecursion as Each}
-use Rattle.script_model.specs.Trees.{Tree, Word, Number, Text, Branch, Trees, Nil, And}
-use Rattle.script_laws.specs.Numbers.{HasFittingNumbers, HaveFittingNumbers}
+use Rattle.spec_script.specs.Trees.{Tree, Word, Number, Text, Branch, Trees, Nil, And}
+use Rattle.law_script.specs.Scripts.Numbers.{HasFittingNumbers, HaveFittingNumbers}
 use Rattle.script_tree.specs.Fitting.{Fits}
 use Rattle.script_tree.specs.Pieces.{Piece, Closes, pieces, row_pieces}
 

@@ -5,20 +5,20 @@ use Rattle.std.specs.Str.{bytes_eq}
 use Rattle.std.proofs.lemmas.List.Quantifiers.{position-Some}
 use Rattle.eio_value.specs.declared.value.TextId.{TextId}
 use Rattle.eio_value.specs.Table.{Interned, text_id, intern}
-use Rattle.script_model.specs.declared.Feature.TheVariants.{Exceptions}
-use Rattle.script_model.specs.Captures.{captured_behind, captured}
-use Rattle.script_model.specs.Expressions.{item, operation, expression, traced}
-use Rattle.script_model.specs.Faults.{ScriptFault, Shape, Size, Twice, Name}
-use Rattle.script_model.specs.Forms.{ExpressionHead, UnitHead, OperatorHead, Form, expression_head, feature_of}
-use Rattle.script_model.specs.Kinds.{Kind, VariableKind, CapabilityKind, DirectoryKind, is_same_kind}
-use Rattle.script_model.specs.Limits.{Range, most_names, most_captured, most_traced}
-use Rattle.script_model.specs.Reads.{Made, Reads, ◌>>>◌, gives, refuses, requires_that, changes, one_node, one_form, interned, may_fail, failure_of, number_within}
-use Rattle.script_model.specs.Results.{◌>>=◌}
-use Rattle.script_model.specs.Scopes.{Named, Scope, named_in, named, with_name, is_variable, bring, used_by, used, directory_by, directory_of}
-use Rattle.script_model.specs.Statements.{form_node}
-use Rattle.script_model.specs.Syntax as syntax
-use Rattle.script_model.specs.Syntax.{Expression, Expressions, Directory}
-use Rattle.script_model.specs.Trees.{Tree, Word, Number, Text, Branch, Trees, Nil, And, place_of}
+use Rattle.spec_script.specs.declared.Feature.TheVariants.{Exceptions}
+use Rattle.spec_script.specs.Captures.{captured_behind, captured}
+use Rattle.spec_script.specs.Expressions.{item, operation, expression, traced}
+use Rattle.spec_script.specs.Faults.{ScriptFault, Shape, Size, Twice, Name}
+use Rattle.spec_script.specs.Forms.{ExpressionHead, UnitHead, OperatorHead, Form, expression_head, feature_of}
+use Rattle.spec_script.specs.Kinds.{Kind, VariableKind, CapabilityKind, DirectoryKind, is_same_kind}
+use Rattle.spec_script.specs.Limits.{Range, most_names, most_captured, most_traced}
+use Rattle.spec_script.specs.Reads.{Made, Reads, ◌>>>◌, gives, refuses, requires_that, changes, one_node, one_form, interned, may_fail, failure_of, number_within}
+use Rattle.spec_script.specs.Results.{◌>>=◌}
+use Rattle.spec_script.specs.Scopes.{Named, Scope, named_in, named, with_name, is_variable, bring, used_by, used, directory_by, directory_of}
+use Rattle.spec_script.specs.Statements.{form_node}
+use Rattle.spec_script.specs.Syntax as syntax
+use Rattle.spec_script.specs.Syntax.{Expression, Expressions, Directory}
+use Rattle.spec_script.specs.Trees.{Tree, Word, Number, Text, Branch, Trees, Nil, And, place_of}
 use Rattle.script_forms.specs.Flat.{flat_expression, flat_expressions}
 use Rattle.script_forms.specs.declared.node.Node.{Node}
 

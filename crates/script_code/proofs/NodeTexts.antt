@@ -2,9 +2,9 @@
 use Rattle.std.proofs.Common.{◌≡◌, ℕ, zero, suc, ◌+◌, List, [], ◌∷◌, ◌++◌, length, Some, None, subst}
 use Rattle.std.specs.Prelude.{slice_get}
 use Rattle.std.specs.List.{AllByRecursion as Each}
-use Rattle.script_model.specs.Scripts.{Script}
-use Rattle.script_model.specs.Syntax as syntax
-use Rattle.script_model.specs.Syntax.{Expression, Expressions, Statement, Statements, Done, Then, Block, Begins, Blocks, NoBlocks, AndBlock}
+use Rattle.spec_script.specs.Scripts.{Script}
+use Rattle.spec_script.specs.Syntax as syntax
+use Rattle.spec_script.specs.Syntax.{Expression, Expressions, Statement, Statements, Done, Then, Block, Begins, Blocks, NoBlocks, AndBlock}
 use Rattle.script_forms.specs.Flat.{flat_expression, flat_expressions, flat_statement, flat_statements, flat_blocks, flat_bodies, nodes_of}
 use Rattle.script_code.specs.Texted.{HasTextsOf, HaveTextsOf, HasTextsOfStatement, HasTextsOfBlock, HaveTextsOfStatements, HaveTextsOfBlocks, HasTextOfNode, HasBodyTexts}
 use Rattle.script_forms.specs.declared.node.Node.{Node}

@@ -4,9 +4,9 @@ use Rattle.std.specs.Prelude.{map, slice_get}
 use Rattle.std.proofs.lemmas.List.{drop-drop}
 use Rattle.std.proofs.lemmas.Option.{slice_get-get_or}
 use Rattle.std.proofs.Math.Seq.{drop-append_seam}
-use Rattle.script_model.specs.Scripts.{Script}
-use Rattle.script_model.specs.Syntax as syntax
-use Rattle.script_model.specs.Syntax.{Expression, Expressions, NoExpressions, AndExpression, Statement, Statements, Done, Then, Block, Begins, Blocks, NoBlocks, AndBlock}
+use Rattle.spec_script.specs.Scripts.{Script}
+use Rattle.spec_script.specs.Syntax as syntax
+use Rattle.spec_script.specs.Syntax.{Expression, Expressions, NoExpressions, AndExpression, Statement, Statements, Done, Then, Block, Begins, Blocks, NoBlocks, AndBlock}
 use Rattle.script_forms.specs.Calls.{operator_in, operator_of, object_call_in, object_call_with_in, object_call_with_of, reader_call_in, path_call_in, path_call_of, group_in, group_of, forking_in, forking_of, directory_in, directory_of}
 use Rattle.script_forms.specs.Flat.{flat_expression, flat_expressions, expression_count, numbers_of, flat_statement, flat_statements, flat_blocks, number_of, flat_bodies, nodes_of}
 use Rattle.script_code.specs.Numbered.{IsNumbered, IsNumberedBlock, AreNumbered, AreNumberedBlocks, AreNumberedBodies, HasNumbers}

@@ -11,7 +11,7 @@ use Rattle.eio_value.specs.declared.plain.Plain.{Plain}
 use Rattle.eio_value.specs.declared.value.TextId.{TextId}
 use Rattle.eio_value.specs.Exceptions.{plain_text}
 use Rattle.eio_value.specs.Table.{HasText, Interned, text_id}
-use Rattle.script_model.specs.Opening.{textless, with_text, with_bound}
+use Rattle.spec_script.specs.Opening.{textless, with_text, with_bound}
 use Rattle.script_forms.specs.Failures.{HasFailures}
 use Rattle.script_code.specs.Opened.{opened_texts}
 

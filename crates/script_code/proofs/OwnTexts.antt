@@ -6,7 +6,7 @@ use Rattle.std.proofs.Math.Seq.{take-append_seam}
 use Rattle.eio_value.specs.declared.plain.Plain.{Plain}
 use Rattle.eio_value.specs.Exceptions.{bound_text}
 use Rattle.eio_value.specs.Table.{Interned, text_id}
-use Rattle.script_model.specs.Opening.{raises_of, with_text, with_bound}
+use Rattle.spec_script.specs.Opening.{raises_of, with_text, with_bound}
 
 -- the new table is the old one, and perhaps more
 record Extends (old new : List (List ℕ)) : Type 0 where

@@ -3,8 +3,8 @@ use Rattle.std.proofs.Common.{◌≡◌, ℕ, ◌<◌, ◌^◌, List, ◌++◌, 
 use Rattle.std.specs.Prelude.{fold}
 use Rattle.eio_value.specs.declared.value.TextId.{TextId}
 use Rattle.eio_value.specs.declared.plain.Plain.TheVariants.{Failure}
-use Rattle.script_model.specs.Opening.{with_bound, textless, opening_texts}
-use Rattle.script_model.specs.Scripts.{Script}
+use Rattle.spec_script.specs.Opening.{with_bound, textless, opening_texts}
+use Rattle.spec_script.specs.Scripts.{Script}
 use Rattle.script_forms.specs.Flat.{number_of, flat_bodies}
 use Rattle.script_code.specs.Unflat.{bodies_of}
 use Rattle.script_code.specs.ScriptCode.{bodies_of-flat}

@@ -2,14 +2,14 @@
 use Rattle.std.proofs.Common.{◌≡◌, ℕ, zero, ◌+◌, ◌<◌, ◌≤◌, Bool, true, false, List, [], ◌∷◌, length, Option, Some, None, Result, Ok, Err, refl, subst, arith}
 use Rattle.std.specs.Prelude.{nat_lt, codes}
 use Rattle.std.proofs.lemmas.Bool.{ltb-true}
-use Rattle.script_model.specs.Declarations.{Declared, nothing_declared}
-use Rattle.script_model.specs.Faults.{ScriptFault, Shape, Size}
-use Rattle.script_model.specs.Limits.{most_bodies}
-use Rattle.script_model.specs.Reads.{nothing_made, ◌>>>◌, gives, refuses, requires_that}
-use Rattle.script_model.specs.Scripts.{Script, items_behind, Parts, parts_of, bodies_of, body_scope, body, domains, read_parts, script_by, script_of_parts, is_one, root_of, script_of}
-use Rattle.script_model.specs.Statements.{statements}
-use Rattle.script_model.specs.Syntax.{Block, Begins}
-use Rattle.script_model.specs.Trees.{Tree, Number, Trees, Nil, And, place_of}
+use Rattle.spec_script.specs.Declarations.{Declared, nothing_declared}
+use Rattle.spec_script.specs.Faults.{ScriptFault, Shape, Size}
+use Rattle.spec_script.specs.Limits.{most_bodies}
+use Rattle.spec_script.specs.Reads.{nothing_made, ◌>>>◌, gives, refuses, requires_that}
+use Rattle.spec_script.specs.Scripts.{Script, items_behind, Parts, parts_of, bodies_of, body_scope, body, domains, read_parts, script_by, script_of_parts, is_one, root_of, script_of}
+use Rattle.spec_script.specs.Statements.{statements}
+use Rattle.spec_script.specs.Syntax.{Block, Begins}
+use Rattle.spec_script.specs.Trees.{Tree, Number, Trees, Nil, And, place_of}
 use Rattle.script_forms.specs.Flat.{flat_statements, flat_block, flat_bodies}
 use Rattle.script_code.specs.Numbered.{IsNumberedBlock, AreNumberedBodies, HasNumbers}
 use Rattle.script_code.proofs.NodeCounts.{From, given, refused, going_on, past, test_keeps, two_rows, same_Ok, err-ok, both_gave}

@@ -4,22 +4,22 @@ use Rattle.std.specs.Prelude.{nat_le, nat_lt, is_none, codes, ◌++◌, IfSome}
 use Rattle.std.specs.List.{AllByRecursion as Each}
 use Rattle.eio_value.specs.Table.{intern}
 use Rattle.eio_value.specs.declared.value.TextId.{TextId}
-use Rattle.script_model.specs.Captures.{slots_of, job_scope}
-use Rattle.script_model.specs.Declarations.{Declaration, Stream, Promise, Semaphore, Mutex, Pool, Executor, Flow, Dir, DeclarationForm, declaration_form_of, items_of, Declared, nothing_declared, with_declaration, declare, declaration_by, declaration, declarations_behind}
-use Rattle.script_model.specs.FlowSteps.{StepHead, DataHead, FaultHead, PauseHead, step_head, step_by, step, steps}
+use Rattle.spec_script.specs.Captures.{slots_of, job_scope}
+use Rattle.spec_script.specs.Declarations.{Declaration, Stream, Promise, Semaphore, Mutex, Pool, Executor, Flow, Dir, DeclarationForm, declaration_form_of, items_of, Declared, nothing_declared, with_declaration, declare, declaration_by, declaration, declarations_behind}
+use Rattle.spec_script.specs.FlowSteps.{StepHead, DataHead, FaultHead, PauseHead, step_head, step_by, step, steps}
 use Rattle.eio_value.specs.declared.flow_step.FlowStep.TheVariants as flow
-use Rattle.script_model.specs.Expressions.{item, operation, expression, traced}
-use Rattle.script_model.specs.Faults.{ScriptFault, Shape, Size, Twice}
-use Rattle.script_model.specs.Forms.{ExpressionHead, UnitHead, OperatorHead, expression_head, Head, LetHead, IfHead, GiveHead, RaiseHead, TryHead, RepeatHead, LoopHead, TraceHead, YieldHead, CheckHead, AwaitCancelHead, SubHead, ProtectHead, CancelHead, SwitchHead, ForkHead, ForkDaemonHead, ForkPromiseHead, FailHead, OnReleaseHead, PairHead, RowHead, ObjectHead, ObjectHeadWith, UseRwHead, UsePoolHead, SubmitHead, SleepHead, NowHead, BufReadHead, ReaderHead, TakeBytesHead, CopyHead, BufWriteHead, PutHead, OpenDirHead, PathHead, SaveHead, Form, form_of}
-use Rattle.script_model.specs.Kinds.{Kind, StreamKind, SemaphoreKind, DirectoryKind, VariableKind, ContextKind, SwitchKind, ReaderKind, WriterKind, CapabilityKind, PromiseKind, MutexKind, PoolKind, ExecutorKind, FlowKind, object_kind, object_kind_with}
-use Rattle.script_model.specs.Limits.{weights, reader_limits, most_branches, most_traced, most_bodies, most_declarations, capacities, counts, sizes}
-use Rattle.script_model.specs.Reads.{Made, nothing_made, Reads, ◌>>>◌, gives, refuses, requires_that, one_node, interned, text_of, failure_of}
-use Rattle.script_model.specs.Scopes.{Scope, named_in}
-use Rattle.script_model.specs.Scripts.{Script, items_behind, Parts, parts_of, bodies_of, body_scope, body, domains, read_parts, script_by, script_of_parts, is_one, root_of, script_of}
-use Rattle.script_model.specs.Statements.{form_node, block_of, statements, statement, value, block, branches, form}
-use Rattle.script_model.specs.Syntax as syntax
-use Rattle.script_model.specs.Syntax.{Expression, Expressions, Statement, Block, Begins, Statements, Done, Then, Blocks, NoBlocks, AndBlock}
-use Rattle.script_model.specs.Trees.{Tree, Word, Number, Text, Branch, Trees, Nil, And, place_of}
+use Rattle.spec_script.specs.Expressions.{item, operation, expression, traced}
+use Rattle.spec_script.specs.Faults.{ScriptFault, Shape, Size, Twice}
+use Rattle.spec_script.specs.Forms.{ExpressionHead, UnitHead, OperatorHead, expression_head, Head, LetHead, IfHead, GiveHead, RaiseHead, TryHead, RepeatHead, LoopHead, TraceHead, YieldHead, CheckHead, AwaitCancelHead, SubHead, ProtectHead, CancelHead, SwitchHead, ForkHead, ForkDaemonHead, ForkPromiseHead, FailHead, OnReleaseHead, PairHead, RowHead, ObjectHead, ObjectHeadWith, UseRwHead, UsePoolHead, SubmitHead, SleepHead, NowHead, BufReadHead, ReaderHead, TakeBytesHead, CopyHead, BufWriteHead, PutHead, OpenDirHead, PathHead, SaveHead, Form, form_of}
+use Rattle.spec_script.specs.Kinds.{Kind, StreamKind, SemaphoreKind, DirectoryKind, VariableKind, ContextKind, SwitchKind, ReaderKind, WriterKind, CapabilityKind, PromiseKind, MutexKind, PoolKind, ExecutorKind, FlowKind, object_kind, object_kind_with}
+use Rattle.spec_script.specs.Limits.{weights, reader_limits, most_branches, most_traced, most_bodies, most_declarations, capacities, counts, sizes}
+use Rattle.spec_script.specs.Reads.{Made, nothing_made, Reads, ◌>>>◌, gives, refuses, requires_that, one_node, interned, text_of, failure_of}
+use Rattle.spec_script.specs.Scopes.{Scope, named_in}
+use Rattle.spec_script.specs.Scripts.{Script, items_behind, Parts, parts_of, bodies_of, body_scope, body, domains, read_parts, script_by, script_of_parts, is_one, root_of, script_of}
+use Rattle.spec_script.specs.Statements.{form_node, block_of, statements, statement, value, block, branches, form}
+use Rattle.spec_script.specs.Syntax as syntax
+use Rattle.spec_script.specs.Syntax.{Expression, Expressions, Statement, Block, Begins, Statements, Done, Then, Blocks, NoBlocks, AndBlock}
+use Rattle.spec_script.specs.Trees.{Tree, Word, Number, Text, Branch, Trees, Nil, And, place_of}
 use Rattle.script_code.specs.Texted.{IsAmong, HasTextsOf, HaveTextsOf, HasTextsOfStatement, HasTextsOfBlock, HaveTextsOfStatements, HaveTextsOfBlocks, HasTextOfStep, HasTextsOfDeclaration, HasDeclaredTexts, HasBodyTexts}
 use Rattle.script_code.proofs.NodeCounts.{Keeps, kept, changed, no_shorter, test_keeps, form_keeps, expression_form_keeps, may_fail_keeps, number_keeps, bring_keeps, used_keeps, directory_keeps, captured_keeps, intern_has, same_Ok, err-ok, both_gave}
 use Rattle.script_code.proofs.DeclarationsKeep.{step_keeps, data_keeps, workers_keep, entries_keep}

@@ -2,7 +2,7 @@
 use Rattle.std.specs.Prelude.{ℕ, List, ◌++◌, map, fold}
 use Rattle.eio_value.specs.declared.plain.Plain.TheVariants.{Failure}
 use Rattle.eio_value.specs.declared.value.TextId.{TextId}
-use Rattle.script_model.specs.Opening.{textless, with_bound}
+use Rattle.spec_script.specs.Opening.{textless, with_bound}
 
 -- the texts that a `try` can bind are put behind the others: those of failures first, then those of exceptions that hold no text
 abbrev pub opened_texts : List (List ℕ) → (failures : List TextId) → List (List ℕ)

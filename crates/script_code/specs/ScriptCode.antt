@@ -4,12 +4,12 @@ use Rattle.std.proofs.Common.{ap, sym, ◌∙◌, append_assoc, append-nil, arit
 use Rattle.std.specs.Coded.{Coded, code_by, codes}
 use Rattle.eio_value.specs.declared.value.TextId.{TextId}
 use Rattle.eio_value.specs.DirectoryCode.{directory_code}
-use Rattle.script_model.specs.Declarations as declaration
-use Rattle.script_model.specs.Declarations.{Declaration}
-use Rattle.script_model.specs.Reads.{Formed}
-use Rattle.script_model.specs.Scripts.{Script}
-use Rattle.script_model.specs.Syntax as syntax
-use Rattle.script_model.specs.Syntax.{Expression, Expressions, Statement, Statements, Block, Begins, Blocks, NoBlocks, AndBlock}
+use Rattle.spec_script.specs.Declarations as declaration
+use Rattle.spec_script.specs.Declarations.{Declaration}
+use Rattle.spec_script.specs.Reads.{Formed}
+use Rattle.spec_script.specs.Scripts.{Script}
+use Rattle.spec_script.specs.Syntax as syntax
+use Rattle.spec_script.specs.Syntax.{Expression, Expressions, Statement, Statements, Block, Begins, Blocks, NoBlocks, AndBlock}
 use Rattle.script_forms.specs.Calls.{operator_of, operator_in, object_call_of, object_call_in, object_call_with_of, object_call_with_in, reader_call_of, reader_call_in, path_call_of, path_call_in, group_of, group_in, forking_of, forking_in, directory_of, directory_in}
 use Rattle.script_forms.specs.Declaring.{declaration_of, declaration_in}
 use Rattle.script_forms.specs.Flat.{flat_expression, flat_expressions, expression_count, headed, number_of, numbers_of, flat_statement, flat_statements, flat_blocks, flat_bodies}

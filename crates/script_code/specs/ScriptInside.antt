@@ -1,7 +1,7 @@
 -- A script as it is kept: its nodes are those of its bodies, and the tree that it was read from says what it is.
 use Rattle.std.specs.Prelude.{◌≡◌, ◌<◌, ◌^◌, length, map, take, Ok}
-use Rattle.script_model.specs.Scripts.{Script, script_of}
-use Rattle.script_model.specs.Opening.{opening_texts}
+use Rattle.spec_script.specs.Scripts.{Script, script_of}
+use Rattle.spec_script.specs.Opening.{opening_texts}
 use Rattle.script_forms.specs.Declaring.{declaration_of}
 use Rattle.script_forms.specs.Failures.{HasFailures}
 use Rattle.script_forms.specs.Flat.{number_of, flat_bodies}

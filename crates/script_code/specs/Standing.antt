@@ -2,8 +2,8 @@
 -- A node says how the statements from it on begin, and with which node they go on.
 use Rattle.std.specs.Prelude.{◌≡◌, ℕ, zero, suc, ◌+◌, ◌<◌, List, [], ◌∷◌, length, drop}
 use Rattle.std.specs.List.{AllByRecursion as Each}
-use Rattle.script_model.specs.Syntax as syntax
-use Rattle.script_model.specs.Syntax.{Expression, Expressions, NoExpressions, AndExpression, Statement, Statements, Done, Then, Block, Begins, Blocks, NoBlocks, AndBlock}
+use Rattle.spec_script.specs.Syntax as syntax
+use Rattle.spec_script.specs.Syntax.{Expression, Expressions, NoExpressions, AndExpression, Statement, Statements, Done, Then, Block, Begins, Blocks, NoBlocks, AndBlock}
 use Rattle.script_forms.specs.Calls.{operator_of, object_call_of, object_call_with_of, reader_call_of, path_call_of, group_of, forking_of, directory_of}
 use Rattle.script_forms.specs.Flat.{flat_expression}
 use Rattle.script_code.specs.Unflat.{first_rest, operand, bound, unflat}

@@ -4,9 +4,9 @@ use Rattle.std.specs.List.{AllByRecursion as Each}
 use Rattle.eio_value.specs.declared.flow_step.FlowStep.{FlowStep}
 use Rattle.eio_value.specs.declared.flow_step.FlowStep.TheVariants.{Fault}
 use Rattle.eio_value.specs.declared.value.TextId.{TextId}
-use Rattle.script_model.specs.Declarations.{Declaration, Flow}
-use Rattle.script_model.specs.Scripts.{Script}
-use Rattle.script_model.specs.Syntax.{Expression, TextValue, Operation, Expressions, NoExpressions, AndExpression, Statement, Let, LetForm, If, Give, Raise, Try, Repeat, Loop, Trace, Sub, Protect, Cancel, Switch, Fork, Fail, OnRelease, Branches, OnObjectWith, UseRw, UsePool, Submit, Sleep, BufRead, TakeBytes, BufWrite, Put, OpenDir, OnPath, Save, Block, Begins, Statements, Done, Then, Blocks, NoBlocks, AndBlock}
+use Rattle.spec_script.specs.Declarations.{Declaration, Flow}
+use Rattle.spec_script.specs.Scripts.{Script}
+use Rattle.spec_script.specs.Syntax.{Expression, TextValue, Operation, Expressions, NoExpressions, AndExpression, Statement, Let, LetForm, If, Give, Raise, Try, Repeat, Loop, Trace, Sub, Protect, Cancel, Switch, Fork, Fail, OnRelease, Branches, OnObjectWith, UseRw, UsePool, Submit, Sleep, BufRead, TakeBytes, BufWrite, Put, OpenDir, OnPath, Save, Block, Begins, Statements, Done, Then, Blocks, NoBlocks, AndBlock}
 use Rattle.script_forms.specs.declared.node.Node.{Node}
 use Rattle.script_forms.specs.declared.node.Node.TheVariants as node
 

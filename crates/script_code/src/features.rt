@@ -1,14 +1,14 @@
 //! The forms of a script that a command refuses: those for the mocked domain alone, further bodies, and what isn't built.
 
 ghost use Rattle.std.specs.Prelude.{◌≡◌};
-ghost use Rattle.script_model.specs.Features.{feature_number, is_built};
+ghost use Rattle.spec_script.specs.Features.{feature_number, is_built};
 
 use crate::script::Script;
-use script_model::Feature;
+use spec_script::Feature;
 
 impl Script {
     ghost use Rattle.std.specs.Prelude.{◌≡◌};
-    ghost use Rattle.script_model.specs.RefusedForms as refused;
+    ghost use Rattle.spec_script.specs.RefusedForms as refused;
 
     /// The offset of the first form that is for the mocked domain alone, exactly where there is one.
     pub fn mock_only(&self) -> Option<u32>

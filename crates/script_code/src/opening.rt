@@ -5,7 +5,7 @@
 
 ghost use Rattle.std.specs.Prelude.{◌≡◌, ◌++◌, fold, map, IfOk, OnOk, codes};
 ghost use Rattle.eio_value.specs.Exceptions.{HasTextsOfPlain, plain_text};
-ghost use Rattle.script_model.specs.Opening.{textless, with_bound, with_text};
+ghost use Rattle.spec_script.specs.Opening.{textless, with_bound, with_text};
 ghost use Rattle.script_forms.specs.Failures.{HasFailures};
 ghost use Rattle.script_code.specs.Opened.{opened_texts};
 ghost use Rattle.eio_value.specs.declared.plain.Plain.TheVariants.{Failure};

@@ -33,7 +33,7 @@ pub struct Script {
 }
 
 impl Model for Script {
-    ghost use Rattle.script_model.specs.Scripts as model;
+    ghost use Rattle.spec_script.specs.Scripts as model;
     ghost use Rattle.script_code.specs.ScriptCode.{script_code};
 
     ghost Value = { model.Script };
@@ -72,9 +72,9 @@ pub struct Parts {
 
 impl Script {
     ghost use Rattle.std.specs.Prelude.{◌≡◌, ◌<◌, ◌≤◌, ◌^◌, Ok, Some, length, map, slice_get, IfOk};
-    ghost use Rattle.script_model.specs.Opening.{opening_texts};
-    ghost use Rattle.script_model.specs.Scripts.{Script as Read, script_of};
-    ghost use Rattle.script_laws.specs.Soundness.{IsSound};
+    ghost use Rattle.spec_script.specs.Opening.{opening_texts};
+    ghost use Rattle.spec_script.specs.Scripts.{Script as Read, script_of};
+    ghost use Rattle.law_script.specs.Scripts.Soundness.{IsSound};
     ghost use Rattle.script_forms.specs.Declaring.{declaration_of};
     ghost use Rattle.script_forms.specs.Flat.{nodes_of};
     ghost use Rattle.script_code.specs.Numbered.{HasNumbers};

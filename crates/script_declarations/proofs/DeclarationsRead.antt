@@ -2,21 +2,21 @@
 use Rattle.std.proofs.Common.{◌≡◌, ℕ, ℤ, pos, negsuc, ◌+◌, List, [], ◌∷◌, ◌++◌, length, min, Bool, true, false, Option, Some, None, Result, Ok, Err, refl, arith, ap, sym, ◌∙◌, subst, append_assoc, append-nil, length-append}
 use Rattle.std.proofs.lemmas.Bool.{false≢true}
 use Rattle.std.specs.Prelude.{◌&&◌, nat_lt, not, codes, option_map}
-use Rattle.script_model.specs.Faults as model
-use Rattle.script_model.specs.Results.{◌>>=◌}
-use Rattle.script_model.specs.Reads.{Made, Reads, ◌>>>◌, gives, requires_that}
-use Rattle.script_model.specs.Limits.{most_workers, most_declarations}
-use Rattle.script_model.specs.Trees.{Tree, Word, Number, Text, Branch, Trees, Nil, And, place_of}
-use Rattle.script_model.specs.Scripts.{Parts, parts_of, items_behind, with_first}
-use Rattle.script_model.specs.Declarations as declarations
-use Rattle.script_model.specs.Declarations.{workers, declaration, declaration_form_of, declarations_behind}
+use Rattle.spec_script.specs.Faults as model
+use Rattle.spec_script.specs.Results.{◌>>=◌}
+use Rattle.spec_script.specs.Reads.{Made, Reads, ◌>>>◌, gives, requires_that}
+use Rattle.spec_script.specs.Limits.{most_workers, most_declarations}
+use Rattle.spec_script.specs.Trees.{Tree, Word, Number, Text, Branch, Trees, Nil, And, place_of}
+use Rattle.spec_script.specs.Scripts.{Parts, parts_of, items_behind, with_first}
+use Rattle.spec_script.specs.Declarations as declarations
+use Rattle.spec_script.specs.Declarations.{workers, declaration, declaration_form_of, declarations_behind}
 use Rattle.script_tree.specs.Pieces.{Piece, Words, Numbers, Texts, Opens, Closes, first_tree}
 use Rattle.script_draft.specs.Ahead.{ahead, rest_of, has_tree, tree_ahead, tree_count, number_at, form_at, IsPast}
 use Rattle.script_draft.specs.Drafts.{Drafted, made_of}
 use Rattle.script_draft.specs.Names.{kind_of}
 use Rattle.script_declarations.specs.declared.declarations.Object.{Object}
 use Rattle.script_declarations.specs.declared.declarations.Object.TheVariants as object
-use Rattle.script_model.specs.declared.Feature.{Feature}
+use Rattle.spec_script.specs.declared.Feature.{Feature}
 use Rattle.std.proofs.lemmas.Bool.Decides.{nat_tests}
 use Rattle.script_draft.specs.Taken.{TakesNumber}
 use Rattle.script_draft.proofs.Counts.{next_here, next_passed, has_none}

@@ -8,11 +8,11 @@ use Rattle.eio_value.specs.Directory as directory
 use Rattle.eio_value.specs.Directory.{Directory, Empty}
 use Rattle.eio_value.specs.EntriesInside.{item_of, directory_of}
 use Rattle.eio_value.specs.declared.entry.Entry.{Entry}
-use Rattle.script_model.specs.Entries.{entry, entry_by, entry_head, entries}
-use Rattle.script_model.specs.Faults as model
-use Rattle.script_model.specs.Results.{◌>>=◌}
-use Rattle.script_model.specs.Reads.{Made, ◌>>>◌, gives, one_entry}
-use Rattle.script_model.specs.Trees.{Tree, Word, Number, Text, Branch, Trees, Nil, And, place_of}
+use Rattle.spec_script.specs.Entries.{entry, entry_by, entry_head, entries}
+use Rattle.spec_script.specs.Faults as model
+use Rattle.spec_script.specs.Results.{◌>>=◌}
+use Rattle.spec_script.specs.Reads.{Made, ◌>>>◌, gives, one_entry}
+use Rattle.spec_script.specs.Trees.{Tree, Word, Number, Text, Branch, Trees, Nil, And, place_of}
 use Rattle.script_tree.specs.Pieces.{Piece, first_tree}
 use Rattle.script_draft.specs.Ahead.{ahead, rest_of, has_tree, tree_ahead, tree_count, form_at, IsPast, IsInForm}
 use Rattle.script_draft.specs.Drafts.{Drafted, made_of}

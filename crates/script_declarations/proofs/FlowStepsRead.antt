@@ -1,10 +1,10 @@
 -- The steps of a flow, one by one as the code reads them.
 use Rattle.std.proofs.Common.{◌≡◌, List, [], ◌∷◌, ◌++◌, true, false, Result, Ok, ap, ◌∙◌, append-nil}
 use Rattle.eio_value.specs.declared.flow_step.FlowStep.{FlowStep}
-use Rattle.script_model.specs.Faults as model
-use Rattle.script_model.specs.Reads.{Made, ◌>>>◌, gives}
-use Rattle.script_model.specs.FlowSteps.{step, steps}
-use Rattle.script_model.specs.Trees.{Tree, Trees, And}
+use Rattle.spec_script.specs.Faults as model
+use Rattle.spec_script.specs.Reads.{Made, ◌>>>◌, gives}
+use Rattle.spec_script.specs.FlowSteps.{step, steps}
+use Rattle.spec_script.specs.Trees.{Tree, Trees, And}
 use Rattle.script_tree.specs.Pieces.{Piece}
 use Rattle.script_draft.specs.Ahead.{ahead, rest_of, has_tree, tree_ahead, IsPast}
 use Rattle.script_forms.specs.Faults.{Fails}

@@ -1,7 +1,7 @@
 -- What is declared, found by its word.
 use Rattle.std.proofs.Common.{◌≡◌, ℕ, List, map, refl}
 use Rattle.std.specs.Option.{option_map}
-use Rattle.script_model.specs.Declarations as declarations
+use Rattle.spec_script.specs.Declarations as declarations
 use Rattle.script_declarations.specs.DeclarationsRead.{form_of}
 use Rattle.script_forms.specs.Words.{begun}
 use Rattle.script_declarations.specs.declared.declarations.TheConstants.{OBJECTS}

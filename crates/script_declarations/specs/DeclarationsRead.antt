@@ -1,14 +1,14 @@
 -- The declarations of the code as those of the definitions, and where they end.
 use Rattle.std.specs.Prelude.{◌≡◌, ℕ, ◌≤◌, ◌==◌, nat_le, nat_lt, Bool, true, false, ◌&&◌, ℤ, pos, negsuc, List, length, map, Some, None, is_some, codes}
-use Rattle.script_model.specs.declared.Feature.{Feature}
-use Rattle.script_model.specs.Limits.{most_workers}
-use Rattle.script_model.specs.Trees.{Tree, Trees, Nil, And}
-use Rattle.script_model.specs.Faults.{Shape, Size}
-use Rattle.script_model.specs.Kinds.{Kind}
-use Rattle.script_model.specs.Reads.{Reads, ◌>>>◌, gives, refuses, requires_that}
-use Rattle.script_model.specs.Scripts.{items_behind}
-use Rattle.script_model.specs.Declarations as declarations
-use Rattle.script_model.specs.Declarations.{Declaration, DeclarationForm, declaration_form}
+use Rattle.spec_script.specs.declared.Feature.{Feature}
+use Rattle.spec_script.specs.Limits.{most_workers}
+use Rattle.spec_script.specs.Trees.{Tree, Trees, Nil, And}
+use Rattle.spec_script.specs.Faults.{Shape, Size}
+use Rattle.spec_script.specs.Kinds.{Kind}
+use Rattle.spec_script.specs.Reads.{Reads, ◌>>>◌, gives, refuses, requires_that}
+use Rattle.spec_script.specs.Scripts.{items_behind}
+use Rattle.spec_script.specs.Declarations as declarations
+use Rattle.spec_script.specs.Declarations.{Declaration, DeclarationForm, declaration_form}
 use Rattle.script_tree.specs.Pieces.{Piece}
 use Rattle.script_draft.specs.Ahead.{ahead, around}
 use Rattle.script_forms.specs.Declaring.{declaration_of}
@@ -18,7 +18,7 @@ use Rattle.script_declarations.specs.declared.declarations.Object.{Object}
 use Rattle.script_declarations.specs.declared.declarations.Object.TheVariants as object
 use Rattle.script_draft.specs.declared.kind.Kind.{Kind as KindRead}
 use Rattle.script_draft.specs.declared.kind.Kind.TheVariants as kind
-use Rattle.script_model.specs.declared.Feature.TheVariants as feature
+use Rattle.spec_script.specs.declared.Feature.TheVariants as feature
 
 abbrev pub declared_of : Declared → declarations.Declared
 declared_of it = record { names = it.names.items; declarations = map declaration_of it.declarations.items; scope = map named_of it.scope.items }

@@ -4,10 +4,10 @@ use Rattle.eio_value.specs.Directory as directory
 use Rattle.eio_value.specs.Directory.{Directory, Item, File, Link, Sub}
 use Rattle.eio_value.specs.EntriesInside.{item_of}
 use Rattle.eio_value.specs.declared.entry.Entry.{Entry}
-use Rattle.script_model.specs.Entries as model
-use Rattle.script_model.specs.Faults.{Shape}
-use Rattle.script_model.specs.Reads.{Reads, ◌>>>◌, gives, refuses}
-use Rattle.script_model.specs.Trees.{Trees, Nil, And}
+use Rattle.spec_script.specs.Entries as model
+use Rattle.spec_script.specs.Faults.{Shape}
+use Rattle.spec_script.specs.Reads.{Reads, ◌>>>◌, gives, refuses}
+use Rattle.spec_script.specs.Trees.{Trees, Nil, And}
 use Rattle.script_declarations.specs.declared.entries.EntryHead.{EntryHead}
 use Rattle.script_declarations.specs.declared.entries.EntryHead.TheVariants as head
 

@@ -2,10 +2,10 @@
 use Rattle.std.specs.Prelude.{ℕ, ◌==◌, Bool}
 use Rattle.eio_value.specs.declared.flow_step.FlowStep.{FlowStep}
 use Rattle.eio_value.specs.declared.flow_step.FlowStep.TheVariants.{Data, Fault, Pause}
-use Rattle.script_model.specs.FlowSteps as model
-use Rattle.script_model.specs.Faults.{Shape}
-use Rattle.script_model.specs.Reads.{Reads, ◌>>>◌, gives, refuses, text_of}
-use Rattle.script_model.specs.Trees.{Trees, Nil, And}
+use Rattle.spec_script.specs.FlowSteps as model
+use Rattle.spec_script.specs.Faults.{Shape}
+use Rattle.spec_script.specs.Reads.{Reads, ◌>>>◌, gives, refuses, text_of}
+use Rattle.spec_script.specs.Trees.{Trees, Nil, And}
 use Rattle.script_declarations.specs.declared.flow_steps.StepHead.{StepHead}
 use Rattle.script_declarations.specs.declared.flow_steps.StepHead.TheVariants as head
 

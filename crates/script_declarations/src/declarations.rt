@@ -2,11 +2,11 @@
 #![tactic(auto, using(script_draft::proofs::Counts::some_ahead, script_draft::proofs::Counts::none_ahead, script_draft::proofs::Counts::count_past))]
 
 ghost use Rattle.std.specs.Prelude.{◌≡◌, ◌+◌, ℕ, IfOk, IfErr, true, not, nat_lt, is_some, length, option_map};
-ghost use Rattle.script_model.specs.Declarations as model;
-ghost use Rattle.script_model.specs.Limits.{most_declarations};
-ghost use Rattle.script_model.specs.Reads as reads;
-ghost use Rattle.script_model.specs.Scopes.{named_in};
-ghost use Rattle.script_model.specs.Trees as trees;
+ghost use Rattle.spec_script.specs.Declarations as model;
+ghost use Rattle.spec_script.specs.Limits.{most_declarations};
+ghost use Rattle.spec_script.specs.Reads as reads;
+ghost use Rattle.spec_script.specs.Scopes.{named_in};
+ghost use Rattle.spec_script.specs.Trees as trees;
 ghost use Rattle.script_draft.specs.Ahead.{ahead, has_tree, tree_ahead, tree_count, IsPast, IsBehind};
 ghost use Rattle.script_forms.specs.Declaring.{declaration_of};
 ghost use Rattle.script_declarations.specs.DeclarationsRead.{declared_of, form_of, kind_in, mocked_in, feature_in, takes, items_read, named_read, worker_read, ends, before_main, IsAtMain};
@@ -18,7 +18,7 @@ use crate::flow_steps::flow_steps;
 use eio_value::{NoMemory, TextId};
 use script_draft::{Cursor, Draft, Kind, Named, Number, Word, named_in, number_within};
 use script_forms::{Decl, Numbers, ScriptFault, begun};
-use script_model::Feature;
+use spec_script::Feature;
 use std::alloc::Global;
 
 /// The most declarations of a script.
@@ -121,9 +121,9 @@ pub struct Declared<'t> {
 
 impl<'t> Declared<'t> {
     ghost use Rattle.std.specs.Prelude.{◌≡◌, not, nat_lt, is_some, length, map, OnOk};
-    ghost use Rattle.script_model.specs.Declarations as model;
-    ghost use Rattle.script_model.specs.Limits.{most_declarations};
-    ghost use Rattle.script_model.specs.Scopes.{named_in};
+    ghost use Rattle.spec_script.specs.Declarations as model;
+    ghost use Rattle.spec_script.specs.Limits.{most_declarations};
+    ghost use Rattle.spec_script.specs.Scopes.{named_in};
     ghost use Rattle.script_forms.specs.Declaring.{declaration_of};
     ghost use Rattle.script_declarations.specs.DeclarationsRead.{declared_of};
     ghost use Rattle.script_draft.specs.Names.{kind_of, named_of};

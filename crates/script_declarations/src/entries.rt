@@ -5,7 +5,7 @@ ghost use Rattle.std.specs.Prelude.{◌≡◌, [], true, IfOk, option_map};
 ghost use Rattle.std.specs.List.{list_any, list_all};
 ghost use Rattle.std.specs.Str.{bytes_eq};
 ghost use Rattle.eio_value.specs.EntriesInside.{item_of};
-ghost use Rattle.script_model.specs.Entries as model;
+ghost use Rattle.spec_script.specs.Entries as model;
 ghost use Rattle.script_draft.specs.Ahead.{ahead, has_tree, tree_ahead, tree_count, IsPast, IsBehind};
 ghost use Rattle.script_declarations.specs.EntriesRead.{head_of, takes, names_in, own_name, named};
 ghost use Rattle.script_draft.specs.Readings.{Makes};

@@ -2,8 +2,8 @@
 #![tactic(auto, using(script_draft::proofs::Counts::some_ahead, script_draft::proofs::Counts::none_ahead, script_draft::proofs::Counts::count_past))]
 
 ghost use Rattle.std.specs.Prelude.{◌≡◌, true, IfOk, option_map};
-ghost use Rattle.script_model.specs.FlowSteps as model;
-ghost use Rattle.script_model.specs.Reads as reads;
+ghost use Rattle.spec_script.specs.FlowSteps as model;
+ghost use Rattle.spec_script.specs.Reads as reads;
 ghost use Rattle.script_draft.specs.Ahead.{ahead, has_tree, tree_ahead, tree_count, IsPast, IsBehind};
 ghost use Rattle.script_draft.specs.Readings.{Makes};
 ghost use Rattle.script_declarations.specs.FlowStepsRead.{head_of, takes, operand};

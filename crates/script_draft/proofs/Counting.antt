@@ -2,7 +2,7 @@
 use Rattle.std.proofs.Common.{◌≡◌, ℕ, zero, suc, ◌+◌, ◌-◌, ◌<◌, ◌≤◌, List, [], ◌∷◌, length, map, drop, get_or, true, refl, arith, ap, sym, ◌∙◌, add-one}
 use Rattle.std.proofs.lemmas.Grind.{common_steps}
 use Rattle.std.proofs.lemmas.Bool.{false≢true}
-use Rattle.script_model.specs.Trees.{Trees, Nil}
+use Rattle.spec_script.specs.Trees.{Trees, Nil}
 use Rattle.script_tree.specs.Pieces.{Piece, Words, Numbers, Texts, Opens, Closes, piece_of, others, onto_rows, rows}
 use Rattle.script_tree.specs.declared.tree.Node.{Node}
 use Rattle.script_draft.specs.Ahead.{tree_count, begins_tree}

@@ -1,7 +1,7 @@
 -- Lists of a known number of trees.
 use Rattle.std.proofs.Common.{◌≡◌, ◌-◌, ◌<◌, List, [], ◌∷◌, true, false, refl, arith, ap, sym, ◌∙◌}
 use Rattle.std.proofs.lemmas.Bool.{false≢true}
-use Rattle.script_model.specs.Trees.{Trees, Nil, And}
+use Rattle.spec_script.specs.Trees.{Trees, Nil, And}
 use Rattle.script_tree.specs.Pieces.{Piece, Words, Numbers, Texts, Opens, Closes, first_tree}
 use Rattle.script_draft.specs.Ahead.{ahead, rest_of, tree_count, has_tree, tree_ahead, IsPast}
 

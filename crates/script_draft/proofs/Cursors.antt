@@ -1,7 +1,7 @@
 -- What the next pieces say of the trees that are left.
 use Rattle.std.proofs.Common.{◌≡◌, ℕ, ℤ, List, [], ◌∷◌, true, false, Option, Some, None, refl, arith, ap, sym, ◌∙◌}
 use Rattle.std.proofs.lemmas.Bool.{false≢true}
-use Rattle.script_model.specs.Trees.{Tree, Word, Number, Text, Branch, place_of}
+use Rattle.spec_script.specs.Trees.{Tree, Word, Number, Text, Branch, place_of}
 use Rattle.script_tree.specs.Pieces.{Piece, Words, Numbers, Texts, Opens, Closes}
 use Rattle.script_draft.specs.Ahead.{ahead, around, behind, front, has_tree, tree_ahead, IsPast, IsInside, IsBehind, IsInForm, word_at, number_at, text_at, list_at, form_at, place_in, word_in, text_in, number_in, open_in}
 

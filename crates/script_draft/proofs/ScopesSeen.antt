@@ -3,8 +3,8 @@ use Rattle.std.proofs.Common.{◌≡◌, ℕ, ◌+◌, ◌<◌, ◌≤◌, List,
 use Rattle.std.specs.Prelude.{option_map}
 use Rattle.std.specs.Str.{bytes_eq}
 use Rattle.std.proofs.lemmas.Grind.{common_steps}
-use Rattle.script_model.specs.Scopes as scopes
-use Rattle.script_model.specs.Scopes.{named_in}
+use Rattle.spec_script.specs.Scopes as scopes
+use Rattle.spec_script.specs.Scopes.{named_in}
 use Rattle.script_draft.specs.Names.{named_of}
 use Rattle.script_draft.specs.declared.scope.Named.{Named}
 use Rattle.script_draft.specs.declared.kind.Kind.{Kind}
@@ -14,13 +14,13 @@ use Rattle.script_forms.specs.declared.fault.ScriptFault.TheVariants as fault
 use Rattle.std.specs.List.{filter}
 use Rattle.std.specs.Borrow.{Bor}
 use Rattle.std.specs.Prelude.{not, nat_lt, is_none, is_some, Result, Ok, Err}
-use Rattle.script_model.specs.Faults as model
-use Rattle.script_model.specs.Kinds as kinds
-use Rattle.script_model.specs.Limits.{most_names}
-use Rattle.script_model.specs.Reads.{Made}
-use Rattle.script_model.specs.Scopes.{Scope, named, bring, bring_by, used, used_by, directory_by, is_variable, with_name}
-use Rattle.script_model.specs.Syntax.{Declared, Opened}
-use Rattle.script_model.specs.Trees.{Tree, Word, Number, Text, Branch, place_of}
+use Rattle.spec_script.specs.Faults as model
+use Rattle.spec_script.specs.Kinds as kinds
+use Rattle.spec_script.specs.Limits.{most_names}
+use Rattle.spec_script.specs.Reads.{Made}
+use Rattle.spec_script.specs.Scopes.{Scope, named, bring, bring_by, used, used_by, directory_by, is_variable, with_name}
+use Rattle.spec_script.specs.Syntax.{Declared, Opened}
+use Rattle.spec_script.specs.Trees.{Tree, Word, Number, Text, Branch, place_of}
 use Rattle.script_draft.specs.Ahead.{word_at}
 use Rattle.script_draft.specs.Names.{kind_of}
 use Rattle.script_forms.specs.Faults.{Fails}

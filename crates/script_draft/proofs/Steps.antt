@@ -1,16 +1,16 @@
 -- Steps of the definitions that give or fail, one behind the other, and what is made by them.
 use Rattle.std.proofs.Common.{◌≡◌, ℕ, ◌+◌, ◌<◌, List, [], ◌∷◌, ◌++◌, length, Result, Ok, refl, arith, ap, sym, ◌∙◌, length-append}
-use Rattle.script_model.specs.Faults as model
-use Rattle.script_model.specs.Results.{◌>>=◌}
-use Rattle.script_model.specs.Reads.{Made}
+use Rattle.spec_script.specs.Faults as model
+use Rattle.spec_script.specs.Results.{◌>>=◌}
+use Rattle.spec_script.specs.Reads.{Made}
 use Rattle.script_draft.specs.Drafts.{Drafted, made_of}
 use Rattle.std.proofs.Common.{take, append_assoc}
 use Rattle.std.specs.Prelude.{slice_set}
 use Rattle.std.proofs.Math.Seq.{take-length}
 use Rattle.std.proofs.lemmas.List.{take_more_set, set-append_left, length-set}
-use Rattle.script_model.specs.Syntax.{Statement}
-use Rattle.script_model.specs.Scopes.{Scope}
-use Rattle.script_model.specs.Statements.{Stated}
+use Rattle.spec_script.specs.Syntax.{Statement}
+use Rattle.spec_script.specs.Scopes.{Scope}
+use Rattle.spec_script.specs.Statements.{Stated}
 use Rattle.script_forms.specs.Flat.{flat_statement}
 use Rattle.script_forms.specs.Faults.{Fails}
 use Rattle.script_draft.specs.Readings.{HasStated}

@@ -3,8 +3,8 @@ use Rattle.std.proofs.Common.{◌≡◌, ℕ, ◌+◌, ◌<◌, ◌≤◌, List,
 use Rattle.std.proofs.lemmas.Grind.{common_steps}
 use Rattle.std.proofs.lemmas.Bool.{false≢true}
 use Rattle.std.specs.Prelude.{option_map}
-use Rattle.script_model.specs.Trees.{Trees}
-use Rattle.script_model.specs.Forms.{are_texts}
+use Rattle.spec_script.specs.Trees.{Trees}
+use Rattle.spec_script.specs.Forms.{are_texts}
 use Rattle.script_tree.specs.Pieces.{Piece, Words, Numbers, Texts, Opens, Closes, piece_of, first, onto_rows, rows}
 use Rattle.script_tree.specs.declared.tree.Node.{Node}
 use Rattle.script_draft.specs.Ahead.{ahead, begins_tree, text_in}

@@ -1,6 +1,6 @@
 -- What is left of a tree, from a piece on: the trees left of the list that the piece stands in, and those left of the lists around it.
 use Rattle.std.specs.Prelude.{◌≡◌, ℕ, ℤ, ◌+◌, ◌<◌, ◌≤◌, Bool, true, false, List, [], ◌∷◌, length, Option, Some, None}
-use Rattle.script_model.specs.Trees.{Tree, Word, Number, Text, Branch, Trees, Nil, And}
+use Rattle.spec_script.specs.Trees.{Tree, Word, Number, Text, Branch, Trees, Nil, And}
 use Rattle.script_tree.specs.Pieces.{Piece, Words, Numbers, Texts, Opens, Closes, first, others, rows, first_tree}
 
 unfoldable pub ahead : List Piece → Trees

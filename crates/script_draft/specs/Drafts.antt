@@ -1,7 +1,7 @@
 -- What is made of a script while it is read: the definitions' `Made`, with the nodes themselves.
 use Rattle.std.specs.Prelude.{ℕ, List, [], length}
 use Rattle.eio_value.specs.declared.value.TextId.{TextId}
-use Rattle.script_model.specs.Reads.{Formed, Made}
+use Rattle.spec_script.specs.Reads.{Formed, Made}
 use Rattle.script_forms.specs.declared.node.Node.{Node}
 
 pub record Drafted : Type 0 where

@@ -1,6 +1,6 @@
 -- The rows of trees that are left of the lists around a piece, by how many lists lie between.
 use Rattle.std.specs.Prelude.{ℕ, zero, suc, ◌+◌, ◌-◌, List}
-use Rattle.script_model.specs.Trees.{Trees}
+use Rattle.spec_script.specs.Trees.{Trees}
 use Rattle.script_tree.specs.Pieces.{Piece, Opens, Closes, first, others}
 
 abbrev pub level : ℕ → List Trees → Trees

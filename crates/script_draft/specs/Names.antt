@@ -1,9 +1,9 @@
 -- The code's names as those of the definitions.
 use Rattle.std.specs.Prelude.{◌≡◌, Result, Ok, Err}
-use Rattle.script_model.specs.Kinds as model
-use Rattle.script_model.specs.Scopes as scopes
-use Rattle.script_model.specs.Trees.{Tree}
-use Rattle.script_model.specs.Reads.{Made}
+use Rattle.spec_script.specs.Kinds as model
+use Rattle.spec_script.specs.Scopes as scopes
+use Rattle.spec_script.specs.Trees.{Tree}
+use Rattle.spec_script.specs.Reads.{Made}
 use Rattle.script_draft.specs.declared.kind.Kind.{Kind}
 use Rattle.script_draft.specs.declared.scope.Named.{Named}
 use Rattle.script_forms.specs.declared.fault.ScriptFault.{ScriptFault}

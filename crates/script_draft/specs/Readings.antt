@@ -1,9 +1,9 @@
 -- What a reading function of the code gave, beside what the definitions' steps give.
 use Rattle.std.specs.Prelude.{◌≡◌, ℕ, List, ◌++◌, length, take, Result, Ok, Err}
-use Rattle.script_model.specs.Reads.{Made, Reads}
-use Rattle.script_model.specs.Syntax.{Statement, Expressions}
-use Rattle.script_model.specs.Scopes.{Scope}
-use Rattle.script_model.specs.Statements.{Stated}
+use Rattle.spec_script.specs.Reads.{Made, Reads}
+use Rattle.spec_script.specs.Syntax.{Statement, Expressions}
+use Rattle.spec_script.specs.Scopes.{Scope}
+use Rattle.spec_script.specs.Statements.{Stated}
 use Rattle.script_draft.specs.Drafts.{Drafted, made_of}
 use Rattle.script_forms.specs.Flat.{flat_statement, flat_expressions, expression_count}
 use Rattle.script_forms.specs.Faults.{Fails}

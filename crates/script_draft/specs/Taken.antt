@@ -1,6 +1,6 @@
 -- What the cursor gave of the tree that came next.
 use Rattle.std.specs.Prelude.{◌≡◌, ℕ, ℤ, List, Option, Some, None, Result, Ok, Err}
-use Rattle.script_model.specs.Trees.{Tree, Word, Number, Text, place_of}
+use Rattle.spec_script.specs.Trees.{Tree, Word, Number, Text, place_of}
 use Rattle.std.specs.Borrow.{Bor}
 use Rattle.script_tree.specs.Pieces.{Piece, piece_of}
 use Rattle.script_tree.specs.declared.tree.Node.{Node}

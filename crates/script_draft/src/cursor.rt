@@ -136,8 +136,8 @@ fn lists_behind(lists: usize, piece: &Piece) -> usize
 
 impl<'t> Cursor<'t> {
     ghost use Rattle.std.specs.Prelude.{◌≡◌, ◌≤◌, ◌∷◌, [], map, min, length, true, false, option_map, IfOk};
-    ghost use Rattle.script_model.specs.Trees.{place_of};
-    ghost use Rattle.script_model.specs.Forms.{are_texts};
+    ghost use Rattle.spec_script.specs.Trees.{place_of};
+    ghost use Rattle.spec_script.specs.Forms.{are_texts};
     ghost use Rattle.script_tree.specs.Pieces.{piece_of};
     ghost use Rattle.script_draft.specs.Ahead.{ahead, tree_count, behind, front, has_tree, tree_ahead, word_at, text_at, number_at, list_at, form_at, IsPast, IsBehind};
     ghost use Rattle.script_draft.specs.Taken.{seen, word_of, text_of, number_of, TakesWord, TakesText, TakesNumber, Opens, Enters};

@@ -7,7 +7,7 @@ ghost use Rattle.std.specs.Prelude.{◌≡◌, ◌+◌, ◌<◌, [], ◌∷◌, 
 
 use eio_value::{NoMemory, TextId, Texts};
 use script_forms::{Formed, Node, ScriptFault};
-use script_model::Feature;
+use spec_script::Feature;
 use std::alloc::Global;
 use std::marker::Model;
 
@@ -63,7 +63,7 @@ impl Draft {
     ghost use Rattle.eio_value.specs.Table.{intern};
     ghost use Rattle.script_draft.specs.Drafts.{nothing_drafted};
     ghost use Rattle.script_forms.specs.Failures.{HasFailures};
-    ghost use Rattle.script_model.specs.Reads.{one_step, one_entry};
+    ghost use Rattle.spec_script.specs.Reads.{one_step, one_entry};
     ghost use Rattle.script_draft.specs.Readings.{Makes};
     ghost use Rattle.script_forms.specs.declared.node.Node.TheVariants.{End};
 

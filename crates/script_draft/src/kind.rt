@@ -1,7 +1,7 @@
 //! What a name can stand for.
 
 ghost use Rattle.std.specs.Prelude.{◌≡◌};
-ghost use Rattle.script_model.specs.Kinds.{kind_number, is_same_kind};
+ghost use Rattle.spec_script.specs.Kinds.{kind_number, is_same_kind};
 ghost use Rattle.script_draft.specs.Names.{kind_of};
 
 /// What a name can stand for: something of a block, or something declared.

@@ -1,7 +1,7 @@
 //! Numbers within limits.
 
 ghost use Rattle.std.specs.Prelude.{◌≡◌, ◌≤◌, true, IfOk};
-ghost use Rattle.script_model.specs.Reads as model;
+ghost use Rattle.spec_script.specs.Reads as model;
 ghost use Rattle.script_draft.specs.Ahead.{has_tree, tree_ahead, IsPast};
 ghost use Rattle.script_draft.specs.Readings.{Finds};
 

@@ -4,7 +4,7 @@
 //! with it. The theorems are the clauses `reads` of [`Scope::bring`], [`Scope::used`] and [`Scope::directory`].
 
 ghost use Rattle.std.specs.Prelude.{◌≡◌, option_map, map};
-ghost use Rattle.script_model.specs.Scopes.{named_in, is_variable};
+ghost use Rattle.spec_script.specs.Scopes.{named_in, is_variable};
 ghost use Rattle.script_draft.specs.Names.{named_of};
 
 use crate::cursor::Cursor;
@@ -43,7 +43,7 @@ pub struct Scope<'t, 'd> {
 
 impl<'t, 'd> Model for Scope<'t, 'd> {
     ghost use Rattle.std.specs.Prelude.{map};
-    ghost use Rattle.script_model.specs.Scopes as model;
+    ghost use Rattle.spec_script.specs.Scopes as model;
     ghost use Rattle.script_draft.specs.Names.{named_of};
 
     ghost Value = { model.Scope };
@@ -75,8 +75,8 @@ fn is_variable(named: &Option<Named>) -> bool
 
 impl<'t, 'd> Scope<'t, 'd> {
     ghost use Rattle.std.specs.Prelude.{◌≡◌, ◌≤◌, true, [], not, nat_lt, length, IfOk, OnOk, option_map, map};
-    ghost use Rattle.script_model.specs.Limits.{most_captured, most_names};
-    ghost use Rattle.script_model.specs.Scopes as model;
+    ghost use Rattle.spec_script.specs.Limits.{most_captured, most_names};
+    ghost use Rattle.spec_script.specs.Scopes as model;
     ghost use Rattle.script_draft.specs.Ahead.{has_tree, tree_ahead, IsPast};
     ghost use Rattle.script_draft.specs.Names.{kind_of, named_of, Brings};
     ghost use Rattle.script_draft.specs.Readings.{Finds};

@@ -3,8 +3,8 @@ use Rattle.std.proofs.Common.{◌≡◌, ℕ, Bool, IsTrue, List, map, refl, sym
 use Rattle.std.proofs.lemmas.Slice.Eq.{bytes_eq-Decides}
 use Rattle.std.specs.Option.{option_map}
 use Rattle.std.specs.Str.{bytes_eq}
-use Rattle.script_model.specs.declared.Feature.{Feature}
-use Rattle.script_model.specs.Forms as model
+use Rattle.spec_script.specs.declared.Feature.{Feature}
+use Rattle.spec_script.specs.Forms as model
 use Rattle.script_forms.specs.Heads.{head_of}
 use Rattle.script_forms.specs.Words.{begun}
 use Rattle.script_forms.specs.declared.heads.Head.{Head}

@@ -1,5 +1,5 @@
 -- The small enums of the code and those of the definitions, both ways.
-use Rattle.script_model.specs.Syntax as syntax
+use Rattle.spec_script.specs.Syntax as syntax
 use Rattle.script_forms.specs.declared.node.Operator.{Operator}
 use Rattle.script_forms.specs.declared.node.Operator.TheVariants as operator
 use Rattle.script_forms.specs.declared.node.ObjectCall.{ObjectCall}

@@ -1,6 +1,6 @@
 -- The code's declarations as those of the definitions.
-use Rattle.script_model.specs.Declarations as model
-use Rattle.script_model.specs.Declarations.{Declaration}
+use Rattle.spec_script.specs.Declarations as model
+use Rattle.spec_script.specs.Declarations.{Declaration}
 use Rattle.script_forms.specs.declared.declaration.Decl.{Decl}
 use Rattle.script_forms.specs.declared.declaration.Decl.TheVariants as decl
 

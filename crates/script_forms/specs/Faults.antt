@@ -1,6 +1,6 @@
 -- The faults of the code as those of the definitions.
 use Rattle.std.specs.Prelude.{◌≡◌, Result, Err}
-use Rattle.script_model.specs.Faults as model
+use Rattle.spec_script.specs.Faults as model
 use Rattle.script_forms.specs.declared.fault.ScriptFault.{ScriptFault}
 use Rattle.script_forms.specs.declared.fault.ScriptFault.TheVariants as fault
 

@@ -1,9 +1,9 @@
 -- The nodes of a script's syntax, in reading order. A node of a statement with blocks knows the number of each block, and that of the
 -- node behind all that belongs to it.
 use Rattle.std.specs.Prelude.{ℕ, ◌+◌, List, [], ◌∷◌, ◌++◌, length}
-use Rattle.script_model.specs.Scripts.{Script}
-use Rattle.script_model.specs.Syntax as syntax
-use Rattle.script_model.specs.Syntax.{Expression, Expressions, Statement, Statements, Block, Begins, Blocks, NoBlocks, AndBlock}
+use Rattle.spec_script.specs.Scripts.{Script}
+use Rattle.spec_script.specs.Syntax as syntax
+use Rattle.spec_script.specs.Syntax.{Expression, Expressions, Statement, Statements, Block, Begins, Blocks, NoBlocks, AndBlock}
 use Rattle.script_forms.specs.Calls.{operator_in, object_call_in, object_call_with_in, reader_call_in, path_call_in, group_in, forking_in, directory_in}
 use Rattle.script_forms.specs.declared.node.Node.{Node}
 use Rattle.script_forms.specs.declared.node.Node.TheVariants as node

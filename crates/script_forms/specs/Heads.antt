@@ -1,6 +1,6 @@
 -- The heads of statements in the code as those of the definitions.
 use Rattle.std.specs.Prelude.{◌≡◌, ◌≤◌, ℕ, Bool, ◌==◌, nat_le, List}
-use Rattle.script_model.specs.Forms as forms
+use Rattle.spec_script.specs.Forms as forms
 use Rattle.script_forms.specs.Calls.{object_call_of, object_call_with_of, reader_call_of, path_call_of, group_of}
 use Rattle.script_forms.specs.declared.heads.Head.{Head}
 use Rattle.script_forms.specs.declared.heads.Head.TheVariants as code

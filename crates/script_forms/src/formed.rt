@@ -1,6 +1,6 @@
 //! A form that was read, as a command looks at it before it runs the script.
 
-use script_model::Feature;
+use spec_script::Feature;
 use std::marker::Model;
 
 /// A form that was read.
@@ -15,7 +15,7 @@ pub struct Formed {
 }
 
 impl Model for Formed {
-    ghost use Rattle.script_model.specs.Reads.{Formed as Form};
+    ghost use Rattle.spec_script.specs.Reads.{Formed as Form};
 
     ghost Value = { Form };
 

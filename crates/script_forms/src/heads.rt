@@ -2,12 +2,12 @@
 
 ghost use Rattle.std.specs.Prelude.{◌≡◌, IsTrue, map, option_map};
 ghost use Rattle.std.specs.Str.{bytes_eq};
-ghost use Rattle.script_model.specs.Forms.{form_of};
+ghost use Rattle.spec_script.specs.Forms.{form_of};
 ghost use Rattle.script_forms.specs.Heads.{form_seen, arity_of, shape_of};
 ghost use Rattle.script_forms.specs.Words.{begun, seen};
 
 use crate::node::{Group, ObjectCall, ObjectCallWith, PathCall, ReaderCall};
-use script_model::Feature;
+use spec_script::Feature;
 
 /// What a statement's word begins; those that are read alike have one head.
 #[derive(Clone, Copy)]

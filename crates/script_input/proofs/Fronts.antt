@@ -3,10 +3,10 @@ use Rattle.std.proofs.Common.{◌≡◌, ℕ, ◌<◌, List, [], ◌++◌, lengt
 use Rattle.std.proofs.lemmas.Grind.{common_steps}
 use Rattle.std.specs.Prelude.{nat_le, Option}
 use Rattle.trace_out.specs.Input.{ReadsInput}
-use Rattle.script_model.specs.Results.{◌>>=◌}
-use Rattle.script_model.specs.Refusals.{NoScript, or_refused, input_tree}
-use Rattle.script_model.specs.Scripts.{script_of}
-use Rattle.script_model.specs.Inputs.{checked, printed, printed_by, checked_by, input_script}
+use Rattle.spec_script.specs.Results.{◌>>=◌}
+use Rattle.spec_script.specs.Refusals.{NoScript, or_refused, input_tree}
+use Rattle.spec_script.specs.Scripts.{script_of}
+use Rattle.spec_script.specs.Inputs.{checked, printed, printed_by, checked_by, input_script}
 use Rattle.script_input.specs.declared.inspection.Inspection.{Inspection}
 use Rattle.script_input.specs.declared.inspection.Inspection.TheVariants as inspection
 use Rattle.script_input.specs.Inspections.{inspected}

@@ -1,14 +1,14 @@
 -- What `check` and `print` answer, by the script of the input or its refusal.
 use Rattle.std.proofs.Common.{◌≡◌, ℕ, List, [], false, codes, Result, Ok, Err, refl, ap, sym, ◌∙◌}
 use Rattle.std.specs.Prelude.{IfOk, OnOk, IsOk}
-use Rattle.script_model.specs.Faults as model
-use Rattle.script_model.specs.Trees.{Tree}
-use Rattle.script_model.specs.Results.{◌>>=◌}
-use Rattle.script_model.specs.Canonical.{document}
-use Rattle.script_model.specs.Refusals.{TooLong, NoTree, NoScript, MockOnly, DomainOnly, Unbuilt, refusal_line, or_refused, input_tree}
-use Rattle.script_model.specs.Refusals as refusals
-use Rattle.script_model.specs.Scripts.{Script, script_of}
-use Rattle.script_model.specs.Inputs.{Checked, checked, checked_by, printed, printed_by, refused_by, input_script}
+use Rattle.spec_script.specs.Faults as model
+use Rattle.spec_script.specs.Trees.{Tree}
+use Rattle.spec_script.specs.Results.{◌>>=◌}
+use Rattle.spec_script.specs.Canonical.{document}
+use Rattle.spec_script.specs.Refusals.{TooLong, NoTree, NoScript, MockOnly, DomainOnly, Unbuilt, refusal_line, or_refused, input_tree}
+use Rattle.spec_script.specs.Refusals as refusals
+use Rattle.spec_script.specs.Scripts.{Script, script_of}
+use Rattle.spec_script.specs.Inputs.{Checked, checked, checked_by, printed, printed_by, refused_by, input_script}
 use Rattle.script_input.specs.declared.fault.InputFault.{InputFault}
 use Rattle.script_input.specs.declared.inspection.Inspection.{Inspection}
 use Rattle.script_input.specs.declared.inspection.Inspection.TheVariants as inspection
@@ -16,7 +16,7 @@ use Rattle.script_input.specs.declared.refusal.Refusal.{Refusal}
 use Rattle.script_input.specs.Refusals.{IsRefusedAs, line_of, seen}
 use Rattle.script_input.specs.Inspections.{inspected, due}
 use Rattle.trace_out.specs.Outcome.{Due}
-use Rattle.trace_out.specs.declared.status.Status.TheVariants as status
+use Rattle.trace_lines.specs.declared.status.Status.TheVariants as status
 
 -- the line of each refusal of the definitions is that of the code's
 line_is : (why : refusals.Refusal) → refusal_line why ≡ line_of (seen why)

@@ -5,7 +5,7 @@ use Rattle.std.specs.Io.KnownBytes.{Appends}
 use Rattle.trace_out.specs.Causes.{AppendsFront}
 use Rattle.trace_out.specs.Input.{ReadsInput}
 use Rattle.trace_out.specs.Outcome.{Due, HasRead, ReadsFor, WritesFor}
-use Rattle.trace_out.specs.declared.status.Status.{Status}
+use Rattle.trace_lines.specs.declared.status.Status.{Status}
 use Rattle.trace_out.proofs.Consumed.{has_read_through}
 use Rattle.script_input.specs.declared.inspection.Inspection.{Inspection}
 use Rattle.script_input.specs.declared.inspection.Answer.{Answer}

@@ -1,12 +1,12 @@
 -- The script of an input, by its tree.
 use Rattle.std.proofs.Common.{◌≡◌, ℕ, List, Result, Ok, Err, refl, ap, sym, subst, ◌∙◌}
 use Rattle.std.specs.Prelude.{IfErr}
-use Rattle.script_model.specs.Faults as model
-use Rattle.script_model.specs.Trees.{Tree}
-use Rattle.script_model.specs.Results.{◌>>=◌}
-use Rattle.script_model.specs.Refusals.{Refusal, NoScript, or_refused, input_tree}
-use Rattle.script_model.specs.Scripts.{Script, script_of}
-use Rattle.script_model.specs.Inputs.{input_script}
+use Rattle.spec_script.specs.Faults as model
+use Rattle.spec_script.specs.Trees.{Tree}
+use Rattle.spec_script.specs.Results.{◌>>=◌}
+use Rattle.spec_script.specs.Refusals.{Refusal, NoScript, or_refused, input_tree}
+use Rattle.spec_script.specs.Scripts.{Script, script_of}
+use Rattle.spec_script.specs.Inputs.{input_script}
 use Rattle.script_forms.specs.declared.fault.ScriptFault.{ScriptFault}
 use Rattle.script_forms.specs.declared.fault.ScriptFault.TheVariants as fault
 use Rattle.script_forms.specs.Faults.{Fails}

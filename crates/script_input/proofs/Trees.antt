@@ -2,10 +2,10 @@
 use Rattle.std.proofs.Common.{◌≡◌, ℕ, ◌<◌, ◌≤◌, List, length, Bool, true, false, Result, Ok, Err, arith, refl, ap, sym, subst, ◌∙◌}
 use Rattle.std.proofs.lemmas.Grind.{common_steps}
 use Rattle.std.specs.Prelude.{IfErr, nat_le}
-use Rattle.script_model.specs.Faults as model
-use Rattle.script_model.specs.Trees.{Tree}
-use Rattle.script_model.specs.Reading.{reading}
-use Rattle.script_model.specs.Refusals.{Refusal, TooLong, NoTree, or_refused, input_tree}
+use Rattle.spec_script.specs.Faults as model
+use Rattle.spec_script.specs.Trees.{Tree}
+use Rattle.spec_script.specs.Reading.{reading}
+use Rattle.spec_script.specs.Refusals.{Refusal, TooLong, NoTree, or_refused, input_tree}
 use Rattle.script_tree.specs.declared.fault.TreeFault.{TreeFault}
 use Rattle.script_tree.specs.declared.fault.TreeFault.TheVariants as fault
 use Rattle.script_tree.specs.Views.{Fails}

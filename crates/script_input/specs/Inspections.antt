@@ -1,9 +1,9 @@
 -- What `check` and `print` answer to an input, as code has it.
 use Rattle.std.specs.Prelude.{ℕ, Bool, true, false, List}
 use Rattle.trace_out.specs.Outcome.{Due}
-use Rattle.trace_out.specs.declared.status.Status.{Status}
-use Rattle.trace_out.specs.declared.status.Status.TheVariants as status
-use Rattle.script_model.specs.Inputs.{Checked, checked, printed}
+use Rattle.trace_lines.specs.declared.status.Status.{Status}
+use Rattle.trace_lines.specs.declared.status.Status.TheVariants as status
+use Rattle.spec_script.specs.Inputs.{Checked, checked, printed}
 use Rattle.script_input.specs.declared.inspection.Inspection.{Inspection}
 use Rattle.script_input.specs.declared.inspection.Inspection.TheVariants as inspection
 use Rattle.script_input.specs.declared.inspection.Answer.{Answer}

@@ -1,9 +1,9 @@
 -- The refusals of the code, beside those of the definitions.
 use Rattle.std.specs.Prelude.{◌≡◌, ℕ, List, codes, Result, Err}
-use Rattle.script_model.specs.Limits.{most_input_bytes}
-use Rattle.script_model.specs.Faults as model
-use Rattle.script_model.specs.Refusals.{TooLong, NoTree, NoScript, MockOnly, DomainOnly, Unbuilt, refusal_line_of}
-use Rattle.script_model.specs.Refusals as refusals
+use Rattle.spec_script.specs.Limits.{most_input_bytes}
+use Rattle.spec_script.specs.Faults as model
+use Rattle.spec_script.specs.Refusals.{TooLong, NoTree, NoScript, MockOnly, DomainOnly, Unbuilt, refusal_line_of}
+use Rattle.spec_script.specs.Refusals as refusals
 use Rattle.script_tree.specs.declared.fault.TreeFault.{TreeFault}
 use Rattle.script_tree.specs.declared.fault.TreeFault.TheVariants as tree_fault
 use Rattle.script_forms.specs.declared.fault.ScriptFault.{ScriptFault}

@@ -1,9 +1,9 @@
 //! The tree and the script of an input. Of several refusals the first is answered: the size of the input, its tree, its script.
 ghost use Rattle.std.specs.Prelude.{◌≡◌, Ok, IfOk, IfErr};
-ghost use Rattle.script_model.specs.Refusals as refusals;
-ghost use Rattle.script_model.specs.Refusals.{NoScript, or_refused};
-ghost use Rattle.script_model.specs.Inputs as inputs;
-ghost use Rattle.script_model.specs.Scripts.{script_of};
+ghost use Rattle.spec_script.specs.Refusals as refusals;
+ghost use Rattle.spec_script.specs.Refusals.{NoScript, or_refused};
+ghost use Rattle.spec_script.specs.Inputs as inputs;
+ghost use Rattle.spec_script.specs.Scripts.{script_of};
 ghost use Rattle.script_input.specs.Refusals.{Refuses};
 
 use crate::fault::{InputFault, refused};

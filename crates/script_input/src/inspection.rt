@@ -1,9 +1,9 @@
 //! What `check` and `print` answer to an input.
 ghost use Rattle.std.specs.Prelude.{◌≡◌, Ok, IfOk, IfErr, OnOk, IsOk, codes, false};
-ghost use Rattle.script_model.specs.Canonical.{document};
-ghost use Rattle.script_model.specs.Inputs.{checked, printed, input_script};
-ghost use Rattle.script_model.specs.Refusals.{NoScript, or_refused};
-ghost use Rattle.script_model.specs.Scripts.{script_of};
+ghost use Rattle.spec_script.specs.Canonical.{document};
+ghost use Rattle.spec_script.specs.Inputs.{checked, printed, input_script};
+ghost use Rattle.spec_script.specs.Refusals.{NoScript, or_refused};
+ghost use Rattle.spec_script.specs.Scripts.{script_of};
 ghost use Rattle.script_input.specs.Refusals.{Refuses};
 ghost use Rattle.script_input.specs.Inspections.{inspected, due, due_of};
 

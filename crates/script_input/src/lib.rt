@@ -2,7 +2,7 @@
 //! the commands `check` and `print`, which say so.
 //!
 //! [`inspect_run`] goes from a source's bytes to a sink's and a status: [`inspection`] finds what is answered to an input, by the
-//! reading of [`input`] and the lines of [`refusal`]. Each says in its contract what the definitions of `script_model` give.
+//! reading of [`input`] and the lines of [`refusal`]. Each says in its contract what the definitions of `spec_script` give.
 #![tactic(auto)]
 
 mod command;

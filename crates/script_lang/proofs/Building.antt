@@ -1,8 +1,8 @@
 -- Trees that are made part by part: the pieces of the parts, put together.
 use Rattle.std.proofs.Common.{◌≡◌, ℕ, suc, ◌+◌, ◌-◌, ◌<◌, ◌≤◌, List, [], ◌∷◌, ◌++◌, refl, arith, ap, sym, ◌∙◌, append_assoc, append-nil}
 use Rattle.std.specs.Prelude.{codes, ◌*◌, pos}
-use Rattle.script_model.specs.Generator.{row_of, generated_fork, generated_forks, generated_taker, generated_switch, generated, word, number, branch}
-use Rattle.script_model.specs.Trees.{Tree, Text}
+use Rattle.spec_script.specs.Generator.{row_of, generated_fork, generated_forks, generated_taker, generated_switch, generated, word, number, branch}
+use Rattle.spec_script.specs.Trees.{Tree, Text}
 use Rattle.script_tree.specs.Pieces.{Piece, Words, Numbers, Opens, Closes, pieces, row_pieces}
 
 abbrev forks_pieces : (left at : ℕ) → List Piece

@@ -1,11 +1,11 @@
 -- The generator's tree is a script's, so that no fault is left but that of memory.
 use Rattle.std.proofs.Common.{◌≡◌, ℕ, Result, Ok, Err, refl, subst}
-use Rattle.script_model.specs.Faults as model
-use Rattle.script_model.specs.Generator.{generated}
-use Rattle.script_model.specs.Scripts.{Script, script_of}
-use Rattle.script_model.specs.Trees.{Tree}
-use Rattle.script_laws.specs.Generated.{IsScript}
-use Rattle.script_laws.proofs.Generated.{generated_is_read}
+use Rattle.spec_script.specs.Faults as model
+use Rattle.spec_script.specs.Generator.{generated}
+use Rattle.spec_script.specs.Scripts.{Script, script_of}
+use Rattle.spec_script.specs.Trees.{Tree}
+use Rattle.law_script.specs.Scripts.Generated.{IsScript}
+use Rattle.law_script.proofs.Scripts.Generated.{generated_is_read}
 use Rattle.script_forms.specs.Faults.{Fails}
 use Rattle.script_forms.specs.declared.fault.ScriptFault.{ScriptFault}
 use Rattle.script_forms.specs.declared.fault.ScriptFault.TheVariants as fault

@@ -1,6 +1,6 @@
 -- What was read beside a draft, and the draft, are the parts of a script.
 use Rattle.std.proofs.Common.{◌≡◌, ◌<◌, ◌^◌, length, ap, ◌∙◌}
-use Rattle.script_model.specs.Scripts.{Script}
+use Rattle.spec_script.specs.Scripts.{Script}
 use Rattle.script_forms.specs.Failures.{HasFailures}
 use Rattle.script_draft.specs.Drafts.{Drafted}
 use Rattle.script_draft.specs.declared.draft.Finished.{Finished}

@@ -3,15 +3,15 @@ use Rattle.std.proofs.Common.{◌≡◌, ℕ, ℤ, ◌+◌, List, [], ◌∷◌,
 use Rattle.std.specs.Str.{bytes_eq}
 use Rattle.std.proofs.lemmas.Slice.Eq.{bytes_eq-Decides}
 use Rattle.std.proofs.lemmas.Bool.{false≢true}
-use Rattle.script_model.specs.Faults as model
-use Rattle.script_model.specs.Trees.{Tree, Word, Number, Text, Branch, Trees, Nil, And, place_of}
-use Rattle.script_model.specs.Reads.{Made, Reads, ◌>>>◌, gives, refuses, requires_that}
-use Rattle.script_model.specs.Scopes.{Scope}
-use Rattle.script_model.specs.Syntax.{Block, Begins, Statements}
-use Rattle.script_model.specs.Statements.{statements}
-use Rattle.script_model.specs.Declarations.{Declared}
-use Rattle.script_model.specs.Scripts.{script_of, root_of, script_of_parts, is_one, Parts, with_first, items_behind, parts_of, domains_in, body, body_scope, domains, first_place}
-use Rattle.script_model.specs.Limits.{most_bodies}
+use Rattle.spec_script.specs.Faults as model
+use Rattle.spec_script.specs.Trees.{Tree, Word, Number, Text, Branch, Trees, Nil, And, place_of}
+use Rattle.spec_script.specs.Reads.{Made, Reads, ◌>>>◌, gives, refuses, requires_that}
+use Rattle.spec_script.specs.Scopes.{Scope}
+use Rattle.spec_script.specs.Syntax.{Block, Begins, Statements}
+use Rattle.spec_script.specs.Statements.{statements}
+use Rattle.spec_script.specs.Declarations.{Declared}
+use Rattle.spec_script.specs.Scripts.{script_of, root_of, script_of_parts, is_one, Parts, with_first, items_behind, parts_of, domains_in, body, body_scope, domains, first_place}
+use Rattle.spec_script.specs.Limits.{most_bodies}
 use Rattle.script_tree.specs.Pieces.{Piece, Words, Numbers, Texts, Opens as Opened, Closes, first, others, first_tree}
 use Rattle.script_draft.specs.Ahead.{ahead, around, rest_of, tree_ahead, has_tree, behind, form_at, number_at, IsPast, IsInside, IsInForm, IsBehind, IsWithin}
 use Rattle.script_statements.specs.Blocks.{HasBlock, Blocked}

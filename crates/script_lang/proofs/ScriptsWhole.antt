@@ -1,13 +1,13 @@
 -- A whole script, from its root to its last body.
 use Rattle.std.proofs.Common.{◌≡◌, ℕ, List, [], ◌∷◌, ◌++◌, length, true, Some, Result, Ok, Err, codes, refl, ap, sym, subst, ◌∙◌}
-use Rattle.script_model.specs.Faults as model
-use Rattle.script_model.specs.Results.{◌>>=◌}
-use Rattle.script_model.specs.Trees.{Tree, Word, Number, Text, Branch, Trees, Nil, And}
-use Rattle.script_model.specs.Reads.{Made, Reads, ◌>>>◌, gives, nothing_made}
-use Rattle.script_model.specs.Syntax.{Block}
-use Rattle.script_model.specs.Declarations as declarations
-use Rattle.script_model.specs.Declarations.{declarations_behind, nothing_declared}
-use Rattle.script_model.specs.Scripts.{Parts, script_of, script_by, bodies_of, items_behind, parts_of, body, domains}
+use Rattle.spec_script.specs.Faults as model
+use Rattle.spec_script.specs.Results.{◌>>=◌}
+use Rattle.spec_script.specs.Trees.{Tree, Word, Number, Text, Branch, Trees, Nil, And}
+use Rattle.spec_script.specs.Reads.{Made, Reads, ◌>>>◌, gives, nothing_made}
+use Rattle.spec_script.specs.Syntax.{Block}
+use Rattle.spec_script.specs.Declarations as declarations
+use Rattle.spec_script.specs.Declarations.{declarations_behind, nothing_declared}
+use Rattle.spec_script.specs.Scripts.{Parts, script_of, script_by, bodies_of, items_behind, parts_of, body, domains}
 use Rattle.script_tree.specs.Pieces.{Piece, pieces, first_tree, tree_of}
 use Rattle.script_tree.specs.TreeCode.{tree_of-pieces}
 use Rattle.script_draft.specs.Ahead.{ahead, tree_ahead, has_tree}

@@ -1,6 +1,6 @@
 -- What was read of a script, beside its draft, is a script.
 use Rattle.std.specs.Prelude.{◌≡◌, map, Ok}
-use Rattle.script_model.specs.Scripts.{Script, script_of}
+use Rattle.spec_script.specs.Scripts.{Script, script_of}
 use Rattle.script_forms.specs.Declaring.{declaration_of}
 use Rattle.script_forms.specs.Flat.{number_of, flat_bodies}
 use Rattle.script_draft.specs.Drafts.{Drafted}

@@ -1,14 +1,14 @@
 -- What the functions of the code that read a whole script gave, beside the definitions' steps.
 use Rattle.std.specs.Prelude.{◌≡◌, ℕ, Bool, true, false, not, List, ◌∷◌, ◌++◌, length, map, Option, Some, None, Result, Ok, Err, codes}
-use Rattle.script_model.specs.Faults as model
-use Rattle.script_model.specs.Faults.{Shape, Size}
-use Rattle.script_model.specs.Trees.{Tree, Trees, Nil, place_of}
-use Rattle.script_model.specs.Syntax.{Block}
-use Rattle.script_model.specs.Reads.{Reads as Reading, ◌>>>◌, gives, refuses, requires_that}
-use Rattle.script_model.specs.Scopes.{Scope}
-use Rattle.script_model.specs.Statements.{statements, block_of}
-use Rattle.script_model.specs.Declarations.{Declared}
-use Rattle.script_model.specs.Scripts.{Script, Parts, items_behind, parts_of, bodies_of, body, domains, first_place, script_of_parts}
+use Rattle.spec_script.specs.Faults as model
+use Rattle.spec_script.specs.Faults.{Shape, Size}
+use Rattle.spec_script.specs.Trees.{Tree, Trees, Nil, place_of}
+use Rattle.spec_script.specs.Syntax.{Block}
+use Rattle.spec_script.specs.Reads.{Reads as Reading, ◌>>>◌, gives, refuses, requires_that}
+use Rattle.spec_script.specs.Scopes.{Scope}
+use Rattle.spec_script.specs.Statements.{statements, block_of}
+use Rattle.spec_script.specs.Declarations.{Declared}
+use Rattle.spec_script.specs.Scripts.{Script, Parts, items_behind, parts_of, bodies_of, body, domains, first_place, script_of_parts}
 use Rattle.script_draft.specs.Drafts.{Drafted, made_of}
 use Rattle.script_forms.specs.Flat.{flat_bodies, number_of}
 use Rattle.script_forms.specs.Faults.{Fails}

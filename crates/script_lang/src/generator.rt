@@ -6,10 +6,10 @@
 #![tactic(auto, unfolding(script_tree::specs::Pieces::pieces, script_tree::specs::Pieces::row_pieces))]
 
 ghost use Rattle.std.specs.Prelude.{◌≡◌, ◌≤◌, ◌*◌, [], ◌∷◌, ◌++◌, codes, IfOk, OnOk, Ok};
-ghost use Rattle.script_model.specs.Generator.{word, number, row_of, branch, generated_fork, generated_forks, generated_taker, generated_switch, generated};
-ghost use Rattle.script_model.specs.Limits.{most_load};
-ghost use Rattle.script_model.specs.Scripts.{script_of};
-ghost use Rattle.script_model.specs.Trees.{Text};
+ghost use Rattle.spec_script.specs.Generator.{word, number, row_of, branch, generated_fork, generated_forks, generated_taker, generated_switch, generated};
+ghost use Rattle.spec_script.specs.Limits.{most_load};
+ghost use Rattle.spec_script.specs.Scripts.{script_of};
+ghost use Rattle.spec_script.specs.Trees.{Text};
 ghost use Rattle.script_tree.specs.Pieces.{pieces, row_pieces};
 ghost use Rattle.script_forms.specs.declared.fault.ScriptFault.TheVariants as variant;
 

@@ -2,9 +2,9 @@
 #![tactic(auto, using(script_draft::proofs::Counts::some_ahead, script_draft::proofs::Counts::none_ahead, script_draft::proofs::Counts::count_past))]
 
 ghost use Rattle.std.specs.Prelude.{◌≡◌, ◌+◌, ◌<◌, ◌≤◌, IfOk, IfErr, codes, is_some, length, true, false};
-ghost use Rattle.script_model.specs.Declarations as declared;
-ghost use Rattle.script_model.specs.Scripts.{script_of, items_behind, body_scope, domains_in, first_place, is_one};
-ghost use Rattle.script_model.specs.Trees.{Trees};
+ghost use Rattle.spec_script.specs.Declarations as declared;
+ghost use Rattle.spec_script.specs.Scripts.{script_of, items_behind, body_scope, domains_in, first_place, is_one};
+ghost use Rattle.spec_script.specs.Trees.{Trees};
 ghost use Rattle.script_draft.specs.Ahead.{ahead, has_tree, tree_ahead, IsPast};
 ghost use Rattle.script_statements.specs.Blocks.{Blocked};
 ghost use Rattle.script_declarations.specs.DeclarationsRead.{declared_of, IsAtMain, is_main};

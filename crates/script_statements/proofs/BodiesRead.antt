@@ -1,15 +1,15 @@
 -- Lists of at least so many trees, by the places between them; and what stands before a form's block.
 use Rattle.std.proofs.Common.{◌≡◌, ℕ, ◌+◌, ◌≤◌, List, [], Result, Ok, Err, append-nil, refl, arith, ap, sym, ◌∙◌}
 use Rattle.std.specs.Prelude.{IfOk, IfErr}
-use Rattle.script_model.specs.Trees.{Tree, Trees, Nil, And}
-use Rattle.script_model.specs.Faults as model
-use Rattle.script_model.specs.Kinds.{Kind, SwitchKind}
-use Rattle.script_model.specs.Reads.{Made, ◌>>>◌}
-use Rattle.script_model.specs.Results.{◌>>=◌}
-use Rattle.script_model.specs.Scopes.{Scope, bring, used}
-use Rattle.script_model.specs.Statements.{Stated, stated, statements, block_of}
-use Rattle.script_model.specs.Syntax as syntax
-use Rattle.script_model.specs.Syntax.{Statement, Statements, Block, Begins}
+use Rattle.spec_script.specs.Trees.{Tree, Trees, Nil, And}
+use Rattle.spec_script.specs.Faults as model
+use Rattle.spec_script.specs.Kinds.{Kind, SwitchKind}
+use Rattle.spec_script.specs.Reads.{Made, ◌>>>◌}
+use Rattle.spec_script.specs.Results.{◌>>=◌}
+use Rattle.spec_script.specs.Scopes.{Scope, bring, used}
+use Rattle.spec_script.specs.Statements.{Stated, stated, statements, block_of}
+use Rattle.spec_script.specs.Syntax as syntax
+use Rattle.spec_script.specs.Syntax.{Statement, Statements, Block, Begins}
 use Rattle.script_tree.specs.Pieces.{Piece, first_tree}
 use Rattle.script_statements.specs.Bodies.{node_of_body, IsOpened, Opens, Names, IsFork, Forks}
 use Rattle.script_forms.specs.Calls.{forking_in}

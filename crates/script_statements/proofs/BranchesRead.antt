@@ -1,12 +1,12 @@
 -- The branches of a form, as the code reads them.
 use Rattle.std.proofs.Common.{◌≡◌, ℕ, ◌+◌, ◌<◌, List, [], ◌∷◌, ◌++◌, length, nat_le, nat_lt, Bool, true, false, Ok, refl, arith, ap, sym, subst, ◌∙◌, append_assoc, append-nil, length-append}
-use Rattle.script_model.specs.Limits.{most_branches}
-use Rattle.script_model.specs.Trees.{Tree, Trees, And}
-use Rattle.script_model.specs.Reads.{Made, ◌>>>◌, gives}
-use Rattle.script_model.specs.Scopes.{Scope}
-use Rattle.script_model.specs.Syntax as syntax
-use Rattle.script_model.specs.Syntax.{Blocks, NoBlocks, AndBlock, Begins, Branches}
-use Rattle.script_model.specs.Statements.{block, branches, stated}
+use Rattle.spec_script.specs.Limits.{most_branches}
+use Rattle.spec_script.specs.Trees.{Tree, Trees, And}
+use Rattle.spec_script.specs.Reads.{Made, ◌>>>◌, gives}
+use Rattle.spec_script.specs.Scopes.{Scope}
+use Rattle.spec_script.specs.Syntax as syntax
+use Rattle.spec_script.specs.Syntax.{Blocks, NoBlocks, AndBlock, Begins, Branches}
+use Rattle.spec_script.specs.Statements.{block, branches, stated}
 use Rattle.script_tree.specs.Pieces.{Piece}
 use Rattle.script_draft.specs.Ahead.{ahead, rest_of, tree_ahead, has_tree, IsPast}
 use Rattle.script_statements.specs.Blocks.{HasBlock}

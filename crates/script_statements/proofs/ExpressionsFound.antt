@@ -1,7 +1,7 @@
 -- What begins an expression, found by its word.
 use Rattle.std.proofs.Common.{◌≡◌, ℕ, List, map, codes, refl}
 use Rattle.std.specs.Option.{option_map}
-use Rattle.script_model.specs.Forms as model
+use Rattle.spec_script.specs.Forms as model
 use Rattle.script_statements.specs.ExpressionHeads.{expression_head_of}
 use Rattle.script_forms.specs.Words.{begun}
 use Rattle.script_statements.specs.declared.expressions.TheConstants.{EXPRESSIONS}

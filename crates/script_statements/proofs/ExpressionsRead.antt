@@ -2,14 +2,14 @@
 use Rattle.std.proofs.Common.{◌≡◌, ◌≢◌, ℕ, ℤ, ◌+◌, ◌<◌, List, [], ◌∷◌, ◌++◌, length, Bool, true, false, Option, Some, None, Result, Ok, Err, refl, arith, ap, sym, subst, ◌∙◌}
 use Rattle.eio_value.specs.declared.value.TextId.{TextId}
 use Rattle.eio_value.specs.Table.{intern}
-use Rattle.script_model.specs.Faults as model
-use Rattle.script_model.specs.Results.{◌>>=◌}
-use Rattle.script_model.specs.Trees.{Tree, Word, Number, Text, Branch, Trees, Nil, And, place_of}
-use Rattle.script_model.specs.Kinds.{VariableKind}
-use Rattle.script_model.specs.Reads.{Made}
-use Rattle.script_model.specs.Scopes.{Scope, used}
-use Rattle.script_model.specs.Syntax.{Expression, NumberValue, TextValue, Variable, UnitValue, Operation}
-use Rattle.script_model.specs.Expressions.{item, operation}
+use Rattle.spec_script.specs.Faults as model
+use Rattle.spec_script.specs.Results.{◌>>=◌}
+use Rattle.spec_script.specs.Trees.{Tree, Word, Number, Text, Branch, Trees, Nil, And, place_of}
+use Rattle.spec_script.specs.Kinds.{VariableKind}
+use Rattle.spec_script.specs.Reads.{Made}
+use Rattle.spec_script.specs.Scopes.{Scope, used}
+use Rattle.spec_script.specs.Syntax.{Expression, NumberValue, TextValue, Variable, UnitValue, Operation}
+use Rattle.spec_script.specs.Expressions.{item, operation}
 use Rattle.script_draft.specs.Ahead.{number_at, text_at, list_at, form_at}
 use Rattle.script_draft.specs.Drafts.{Drafted, made_of}
 use Rattle.script_forms.specs.Flat.{flat_expression}
@@ -20,10 +20,10 @@ use Rattle.script_forms.specs.declared.node.Node.TheVariants as node
 use Rattle.std.specs.Prelude.{min, OnOk, IfErr}
 use Rattle.script_forms.specs.declared.fault.ScriptFault.TheVariants as fault
 use Rattle.std.proofs.Common.{append_assoc}
-use Rattle.script_model.specs.declared.Feature.TheVariants.{Exceptions}
-use Rattle.script_model.specs.Forms as forms
-use Rattle.script_model.specs.Forms.{expression_head}
-use Rattle.script_model.specs.Syntax.{Operator}
+use Rattle.spec_script.specs.declared.Feature.TheVariants.{Exceptions}
+use Rattle.spec_script.specs.Forms as forms
+use Rattle.spec_script.specs.Forms.{expression_head}
+use Rattle.spec_script.specs.Syntax.{Operator}
 use Rattle.script_tree.specs.Pieces.{Piece, first_tree}
 use Rattle.script_draft.specs.Ahead.{ahead, rest_of, tree_ahead, tree_count, IsPast, IsInForm}
 use Rattle.script_forms.specs.Calls.{operator_of, operator_in}

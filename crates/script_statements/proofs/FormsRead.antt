@@ -1,16 +1,16 @@
 -- Forms by their heads, as the code reads them.
 use Rattle.std.proofs.Common.{◌≡◌, ℕ, ◌+◌, ◌<◌, List, ◌∷◌, ◌++◌, length, Bool, false, Ok, Err, refl, arith, ap, sym, ◌∙◌, append_assoc, length-append}
 use Rattle.std.specs.Prelude.{slice_set}
-use Rattle.script_model.specs.Faults as model
-use Rattle.script_model.specs.Trees.{Tree, Trees, Nil, And}
-use Rattle.script_model.specs.Reads.{Made, ◌>>>◌}
-use Rattle.script_model.specs.Kinds.{VariableKind}
-use Rattle.script_model.specs.Scopes.{Scope, bring}
-use Rattle.script_model.specs.Syntax as syntax
-use Rattle.script_model.specs.Syntax.{Begins, Branches}
-use Rattle.script_model.specs.Expressions.{item}
-use Rattle.script_model.specs.Forms as forms
-use Rattle.script_model.specs.Statements.{Stated, form, block, branches, stated, statements, value}
+use Rattle.spec_script.specs.Faults as model
+use Rattle.spec_script.specs.Trees.{Tree, Trees, Nil, And}
+use Rattle.spec_script.specs.Reads.{Made, ◌>>>◌}
+use Rattle.spec_script.specs.Kinds.{VariableKind}
+use Rattle.spec_script.specs.Scopes.{Scope, bring}
+use Rattle.spec_script.specs.Syntax as syntax
+use Rattle.spec_script.specs.Syntax.{Begins, Branches}
+use Rattle.spec_script.specs.Expressions.{item}
+use Rattle.spec_script.specs.Forms as forms
+use Rattle.spec_script.specs.Statements.{Stated, form, block, branches, stated, statements, value}
 use Rattle.script_tree.specs.Pieces.{Piece, first_tree}
 use Rattle.script_draft.specs.Ahead.{ahead, rest_of, tree_ahead, tree_count, IsPast}
 use Rattle.script_statements.specs.Blocks.{HasBlock, HasValue}

@@ -5,18 +5,18 @@ use Rattle.std.proofs.lemmas.Bool.{false≢true}
 use Rattle.std.proofs.lemmas.List.{map-append, length-map}
 use Rattle.std.specs.Prelude.{nat_lt, nat_le, is_none, is_err}
 use Rattle.std.specs.Str.{bytes_eq}
-use Rattle.script_model.specs.Captures.{captured_behind, slots_of, numbered_from}
-use Rattle.script_model.specs.Expressions.{item, operation, traced}
-use Rattle.script_model.specs.Faults as model
-use Rattle.script_model.specs.Forms.{ExpressionHead, UnitHead, OperatorHead, expression_head}
-use Rattle.script_model.specs.Kinds.{VariableKind}
-use Rattle.script_model.specs.Limits.{most_captured, most_traced}
-use Rattle.script_model.specs.Reads.{Made, Reads, ◌>>>◌, gives, requires_that}
-use Rattle.script_model.specs.Results.{◌>>=◌}
-use Rattle.script_model.specs.Scopes as scopes
-use Rattle.script_model.specs.Scopes.{Scope, named_in, used}
-use Rattle.script_model.specs.Syntax.{Expression, Expressions, NoExpressions, AndExpression}
-use Rattle.script_model.specs.Trees.{Tree, Word, Number, Text, Branch, Trees, Nil, And}
+use Rattle.spec_script.specs.Captures.{captured_behind, slots_of, numbered_from}
+use Rattle.spec_script.specs.Expressions.{item, operation, traced}
+use Rattle.spec_script.specs.Faults as model
+use Rattle.spec_script.specs.Forms.{ExpressionHead, UnitHead, OperatorHead, expression_head}
+use Rattle.spec_script.specs.Kinds.{VariableKind}
+use Rattle.spec_script.specs.Limits.{most_captured, most_traced}
+use Rattle.spec_script.specs.Reads.{Made, Reads, ◌>>>◌, gives, requires_that}
+use Rattle.spec_script.specs.Results.{◌>>=◌}
+use Rattle.spec_script.specs.Scopes as scopes
+use Rattle.spec_script.specs.Scopes.{Scope, named_in, used}
+use Rattle.spec_script.specs.Syntax.{Expression, Expressions, NoExpressions, AndExpression}
+use Rattle.spec_script.specs.Trees.{Tree, Word, Number, Text, Branch, Trees, Nil, And}
 use Rattle.script_tree.specs.Pieces.{Piece}
 use Rattle.script_draft.specs.Ahead.{ahead, has_tree, tree_ahead, rest_of, IsPast}
 use Rattle.script_forms.specs.Calls.{object_call_of, object_call_with_of, reader_call_of, path_call_of, directory_of, object_call_in, object_call_with_in, reader_call_in, path_call_in, directory_in}

@@ -3,18 +3,18 @@ use Rattle.std.proofs.Common.{◌≡◌, ℕ, ◌+◌, ◌==◌, List, [], ◌�
 use Rattle.std.proofs.lemmas.Bool.{false≢true}
 use Rattle.std.proofs.Math.Seq.{take-length}
 use Rattle.std.proofs.lemmas.List.{take_at}
-use Rattle.script_model.specs.Faults as model
-use Rattle.script_model.specs.Trees.{Tree, Word, Number, Text, Branch, Trees, Nil, And, place_of}
-use Rattle.script_model.specs.Reads.{Made, Reads, ◌>>>◌, gives}
-use Rattle.script_model.specs.Scopes.{Scope}
-use Rattle.script_model.specs.Syntax.{Statement, Statements, Done, Then, Let, LetForm}
-use Rattle.script_model.specs.Expressions.{item}
+use Rattle.spec_script.specs.Faults as model
+use Rattle.spec_script.specs.Trees.{Tree, Word, Number, Text, Branch, Trees, Nil, And, place_of}
+use Rattle.spec_script.specs.Reads.{Made, Reads, ◌>>>◌, gives}
+use Rattle.spec_script.specs.Scopes.{Scope}
+use Rattle.spec_script.specs.Syntax.{Statement, Statements, Done, Then, Let, LetForm}
+use Rattle.spec_script.specs.Expressions.{item}
 use Rattle.script_draft.specs.Taken.{Enters}
 use Rattle.script_draft.specs.declared.cursor.Word.{Word as WordRead}
-use Rattle.script_model.specs.Statements.{statements, statement, form, form_node, block, block_of, value}
-use Rattle.script_model.specs.Forms.{form_of, feature_of, are_texts, trace_feature}
-use Rattle.script_model.specs.declared.Feature.{Feature}
-use Rattle.script_model.specs.declared.Feature.TheVariants.{FirstForms, Exceptions}
+use Rattle.spec_script.specs.Statements.{statements, statement, form, form_node, block, block_of, value}
+use Rattle.spec_script.specs.Forms.{form_of, feature_of, are_texts, trace_feature}
+use Rattle.spec_script.specs.declared.Feature.{Feature}
+use Rattle.spec_script.specs.declared.Feature.TheVariants.{FirstForms, Exceptions}
 use Rattle.script_tree.specs.Pieces.{Piece, Words, Numbers, Texts, Opens, Closes, first, others, first_tree}
 use Rattle.script_draft.specs.Ahead.{ahead, around, rest_of, tree_ahead, tree_count, has_tree, form_at, list_at, IsPast, IsBehind, IsInside, IsInForm, IsWithin}
 use Rattle.script_statements.specs.Blocks.{is_last, HasOpened, Blocked, HasValue, list_word}

@@ -1,9 +1,9 @@
 -- What the functions of the code that read blocks gave, beside the definitions' steps.
 use Rattle.std.specs.Prelude.{◌≡◌, ℕ, ◌+◌, Bool, true, false, List, [], ◌∷◌, ◌++◌, length, Option, Some, None, is_some, Result, Ok, Err}
-use Rattle.script_model.specs.Trees.{Tree, Word, Branch, Trees, Nil, And}
-use Rattle.script_model.specs.Forms.{form_of}
-use Rattle.script_model.specs.Syntax.{Statement, Statements, Block, Begins}
-use Rattle.script_model.specs.Reads.{Reads, Makes}
+use Rattle.spec_script.specs.Trees.{Tree, Word, Branch, Trees, Nil, And}
+use Rattle.spec_script.specs.Forms.{form_of}
+use Rattle.spec_script.specs.Syntax.{Statement, Statements, Block, Begins}
+use Rattle.spec_script.specs.Reads.{Reads, Makes}
 use Rattle.script_draft.specs.Drafts.{Drafted, made_of}
 use Rattle.script_forms.specs.Flat.{flat_statement, flat_statements}
 use Rattle.script_draft.specs.Ahead.{form_at}

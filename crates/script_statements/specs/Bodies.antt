@@ -1,11 +1,11 @@
 -- Forms whose last items are the statements of one block: what is read of them before it.
 use Rattle.std.specs.Prelude.{◌≡◌, ℕ, ◌+◌, ◌≤◌, List, ◌++◌, length, Result, Ok, Err}
-use Rattle.script_model.specs.Trees.{Tree, Trees}
-use Rattle.script_model.specs.Kinds.{Kind}
-use Rattle.script_model.specs.Syntax.{Statement, Statements, Block, Begins}
-use Rattle.script_model.specs.Scopes.{Scope, bring}
-use Rattle.script_model.specs.Reads.{Made, Reads, ◌>>>◌}
-use Rattle.script_model.specs.Statements.{Stated, stated, statements, block_of}
+use Rattle.spec_script.specs.Trees.{Tree, Trees}
+use Rattle.spec_script.specs.Kinds.{Kind}
+use Rattle.spec_script.specs.Syntax.{Statement, Statements, Block, Begins}
+use Rattle.spec_script.specs.Scopes.{Scope, bring}
+use Rattle.spec_script.specs.Reads.{Made, Reads, ◌>>>◌}
+use Rattle.spec_script.specs.Statements.{Stated, stated, statements, block_of}
 use Rattle.script_tree.specs.Pieces.{Piece}
 use Rattle.script_draft.specs.Ahead.{around}
 use Rattle.script_draft.specs.Drafts.{Drafted, made_of}

@@ -1,12 +1,12 @@
 -- The variables that a job takes with it, in the code.
 use Rattle.std.specs.Prelude.{◌≡◌, List, length, nat_lt, is_none, Result, Ok, Err}
-use Rattle.script_model.specs.Captures.{slots_of, job_scope}
-use Rattle.script_model.specs.Faults.{Shape, Size, Twice}
-use Rattle.script_model.specs.Kinds.{VariableKind}
-use Rattle.script_model.specs.Limits.{most_captured}
-use Rattle.script_model.specs.Reads.{Made, Reads, ◌>>>◌, gives, refuses, requires_that}
-use Rattle.script_model.specs.Scopes.{Named, Scope, named_in, used}
-use Rattle.script_model.specs.Trees.{Tree, Word, place_of}
+use Rattle.spec_script.specs.Captures.{slots_of, job_scope}
+use Rattle.spec_script.specs.Faults.{Shape, Size, Twice}
+use Rattle.spec_script.specs.Kinds.{VariableKind}
+use Rattle.spec_script.specs.Limits.{most_captured}
+use Rattle.spec_script.specs.Reads.{Made, Reads, ◌>>>◌, gives, refuses, requires_that}
+use Rattle.spec_script.specs.Scopes.{Named, Scope, named_in, used}
+use Rattle.spec_script.specs.Trees.{Tree, Word, place_of}
 use Rattle.script_forms.specs.Faults.{Fails}
 use Rattle.script_statements.specs.declared.captures.Job.{Job}
 use Rattle.script_forms.specs.declared.fault.ScriptFault.{ScriptFault}

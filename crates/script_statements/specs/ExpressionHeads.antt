@@ -1,12 +1,12 @@
 -- The heads of expressions in the code as those of the definitions.
 use Rattle.std.specs.Prelude.{ℕ, false}
-use Rattle.script_model.specs.Trees.{Trees, Nil, And}
-use Rattle.script_model.specs.Faults.{Shape}
-use Rattle.script_model.specs.Syntax.{Operator, Expression, Operation}
-use Rattle.script_model.specs.Reads.{Reads, ◌>>>◌, gives, refuses, one_node}
-use Rattle.script_model.specs.Scopes.{Scope}
-use Rattle.script_model.specs.Expressions.{item}
-use Rattle.script_model.specs.Forms as forms
+use Rattle.spec_script.specs.Trees.{Trees, Nil, And}
+use Rattle.spec_script.specs.Faults.{Shape}
+use Rattle.spec_script.specs.Syntax.{Operator, Expression, Operation}
+use Rattle.spec_script.specs.Reads.{Reads, ◌>>>◌, gives, refuses, one_node}
+use Rattle.spec_script.specs.Scopes.{Scope}
+use Rattle.spec_script.specs.Expressions.{item}
+use Rattle.spec_script.specs.Forms as forms
 use Rattle.script_forms.specs.Calls.{operator_of}
 use Rattle.script_statements.specs.declared.expressions.ExpressionHead.{ExpressionHead}
 use Rattle.script_statements.specs.declared.expressions.ExpressionHead.TheVariants as expression

@@ -3,11 +3,11 @@
 #![tactic(auto, using(script_draft::proofs::Counts::some_ahead, script_draft::proofs::Counts::none_ahead, script_draft::proofs::Counts::count_past))]
 
 ghost use Rattle.std.specs.Prelude.{◌≡◌, ◌≤◌, ℕ, Bool, IfOk, IfErr};
-ghost use Rattle.script_model.specs.Forms as forms;
-ghost use Rattle.script_model.specs.Kinds.{SwitchKind};
-ghost use Rattle.script_model.specs.Scopes as scopes;
-ghost use Rattle.script_model.specs.Statements as model;
-ghost use Rattle.script_model.specs.Trees.{Tree, And};
+ghost use Rattle.spec_script.specs.Forms as forms;
+ghost use Rattle.spec_script.specs.Kinds.{SwitchKind};
+ghost use Rattle.spec_script.specs.Scopes as scopes;
+ghost use Rattle.spec_script.specs.Statements as model;
+ghost use Rattle.spec_script.specs.Trees.{Tree, And};
 ghost use Rattle.script_draft.specs.Ahead.{ahead, tree_ahead, tree_count, IsPast, IsWithin};
 ghost use Rattle.script_statements.specs.Bodies.{Opens, Names, Forks};
 ghost use Rattle.script_draft.specs.Drafts.{Drafted};

@@ -1,8 +1,8 @@
 //! The variables that a job takes with it. The theorem is the clause `reads` of [`captured`].
 
 ghost use Rattle.std.specs.Prelude.{◌≡◌, ◌<◌, true, [], length, map, IfOk};
-ghost use Rattle.script_model.specs.Captures as model;
-ghost use Rattle.script_model.specs.Limits.{most_captured};
+ghost use Rattle.spec_script.specs.Captures as model;
+ghost use Rattle.spec_script.specs.Limits.{most_captured};
 ghost use Rattle.script_draft.specs.Ahead.{ahead, has_tree, tree_ahead, IsPast, IsBehind};
 ghost use Rattle.script_statements.specs.Captured.{Captures, captured_next};
 ghost use Rattle.script_draft.specs.Names.{named_of};

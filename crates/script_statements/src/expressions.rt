@@ -2,8 +2,8 @@
 //! [`item`].
 
 ghost use Rattle.std.specs.Prelude.{◌≡◌, [], ◌∷◌, ◌++◌, true, false, IfOk, IfErr, OnOk, None, option_map};
-ghost use Rattle.script_model.specs.Expressions as model;
-ghost use Rattle.script_model.specs.Forms.{expression_head};
+ghost use Rattle.spec_script.specs.Expressions as model;
+ghost use Rattle.spec_script.specs.Forms.{expression_head};
 ghost use Rattle.script_draft.specs.Ahead.{ahead, has_tree, tree_ahead, tree_count, list_at, IsPast, IsBehind};
 ghost use Rattle.script_forms.specs.Flat.{flat_expression, flat_expressions};
 ghost use Rattle.script_forms.specs.Calls.{operator_of};
@@ -14,7 +14,7 @@ ghost use Rattle.script_draft.specs.Readings.{Grows};
 
 use script_draft::{Cursor, Draft, Kind, Scope, Word};
 use script_forms::{Node, Operator, ScriptFault, begun};
-use script_model::Feature;
+use spec_script::Feature;
 
 /// What an expression's word begins.
 #[derive(Clone, Copy)]

@@ -1,9 +1,9 @@
 //! Statements without a block, by their heads.
 
 ghost use Rattle.std.specs.Prelude.{◌≡◌, ◌+◌, ℕ, Bool, IfOk, length};
-ghost use Rattle.script_model.specs.Forms as forms;
-ghost use Rattle.script_model.specs.Statements as model;
-ghost use Rattle.script_model.specs.Trees.{Tree, And};
+ghost use Rattle.spec_script.specs.Forms as forms;
+ghost use Rattle.spec_script.specs.Statements as model;
+ghost use Rattle.spec_script.specs.Trees.{Tree, And};
 ghost use Rattle.script_draft.specs.Ahead.{ahead, tree_count, IsBehind};
 ghost use Rattle.script_forms.specs.Heads.{head_of, arity_of, shape_of, Fits};
 ghost use Rattle.script_draft.specs.Readings.{States};

@@ -3,9 +3,9 @@
 #![tactic(auto, using(script_draft::proofs::Counts::some_ahead, script_draft::proofs::Counts::none_ahead, script_draft::proofs::Counts::count_past))]
 
 ghost use Rattle.std.specs.Prelude.{◌≡◌, ◌+◌, ◌≤◌, ℕ, Bool, IfOk, length};
-ghost use Rattle.script_model.specs.Forms as forms;
-ghost use Rattle.script_model.specs.Statements as model;
-ghost use Rattle.script_model.specs.Trees.{Tree, And};
+ghost use Rattle.spec_script.specs.Forms as forms;
+ghost use Rattle.spec_script.specs.Statements as model;
+ghost use Rattle.spec_script.specs.Trees.{Tree, And};
 ghost use Rattle.script_draft.specs.Ahead.{ahead, tree_count, IsBehind};
 ghost use Rattle.script_draft.specs.Readings.{States};
 ghost use Rattle.script_forms.specs.Calls.{reader_call_of, path_call_of};

@@ -4,11 +4,11 @@
 #![tactic(auto, using(script_draft::proofs::Counts::some_ahead, script_draft::proofs::Counts::none_ahead, script_draft::proofs::Counts::count_past))]
 
 ghost use Rattle.std.specs.Prelude.{◌≡◌, true, ◌+◌, ◌≤◌, ℕ, Bool, IfOk, length, slice_set};
-ghost use Rattle.script_model.specs.Forms as forms;
-ghost use Rattle.script_model.specs.Statements as model;
-ghost use Rattle.script_model.specs.Trees.{Tree, And};
-ghost use Rattle.script_model.specs.Expressions as expressions;
-ghost use Rattle.script_model.specs.Reads as reads;
+ghost use Rattle.spec_script.specs.Forms as forms;
+ghost use Rattle.spec_script.specs.Statements as model;
+ghost use Rattle.spec_script.specs.Trees.{Tree, And};
+ghost use Rattle.spec_script.specs.Expressions as expressions;
+ghost use Rattle.spec_script.specs.Reads as reads;
 ghost use Rattle.script_draft.specs.Ahead.{ahead, has_tree, tree_ahead, tree_count, IsPast, IsBehind};
 ghost use Rattle.script_forms.specs.Heads.{head_of};
 ghost use Rattle.script_draft.specs.Readings.{Makes, States, Traces};

@@ -2,11 +2,11 @@
 #![tactic(auto, using(script_draft::proofs::Counts::some_ahead, script_draft::proofs::Counts::none_ahead, script_draft::proofs::Counts::count_past))]
 
 ghost use Rattle.std.specs.Prelude.{◌≡◌, ◌+◌, ◌↔◌, ℕ, Bool, List, true, IsTrue, IfOk, length};
-ghost use Rattle.script_model.specs.Reads.{◌>>>◌};
-ghost use Rattle.script_model.specs.Syntax.{Branches};
-ghost use Rattle.script_model.specs.Forms as forms;
-ghost use Rattle.script_model.specs.Statements as model;
-ghost use Rattle.script_model.specs.Trees.{Tree, And};
+ghost use Rattle.spec_script.specs.Reads.{◌>>>◌};
+ghost use Rattle.spec_script.specs.Syntax.{Branches};
+ghost use Rattle.spec_script.specs.Forms as forms;
+ghost use Rattle.spec_script.specs.Statements as model;
+ghost use Rattle.spec_script.specs.Trees.{Tree, And};
 ghost use Rattle.script_draft.specs.Ahead.{ahead, has_tree, tree_ahead, tree_count, IsPast, IsBehind};
 ghost use Rattle.script_statements.specs.Blocks.{is_last, Blocked, Values, Opened, Comes};
 ghost use Rattle.script_forms.specs.Calls.{group_of};
@@ -22,7 +22,7 @@ use script_draft::{Cursor, Draft, Kind, Scope};
 use script_forms::{
     Arity, Form, Group, Head, Node, Numbers, ScriptFault, Shape, arity_of, form_of, shape_of,
 };
-use script_model::Feature;
+use spec_script::Feature;
 
 /// The most branches of a form.
 const MOST_BRANCHES: usize = 64;

@@ -1,6 +1,6 @@
 -- Pieces that are those of a tree spell it.
 use Rattle.std.proofs.Common.{◌≡◌, List, ap, sym, ◌∙◌}
-use Rattle.script_model.specs.Trees.{Tree}
+use Rattle.spec_script.specs.Trees.{Tree}
 use Rattle.script_tree.specs.Pieces.{Piece, pieces, tree_of, IsWhole}
 use Rattle.script_tree.specs.TreeCode.{tree_of-pieces}
 

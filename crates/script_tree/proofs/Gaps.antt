@@ -2,7 +2,7 @@
 use Rattle.std.proofs.Common.{◌≡◌, ℕ, ◌+◌, ◌<◌, ◌≤◌, List, [], ◌∷◌, length, get_or, drop, Bool, Some, None, refl, arith, drop-cons, add-one, ap, sym, ◌∙◌}
 use Rattle.std.proofs.lemmas.Grind.{common_steps}
 use Rattle.std.specs.declared.option.Option.{Option}
-use Rattle.script_model.specs.Reading.{Here, here, gap_step, past_gap}
+use Rattle.spec_script.specs.Reading.{Here, here, gap_step, past_gap}
 use Rattle.script_tree.specs.Views.{from}
 
 -- where a step over one byte leads to

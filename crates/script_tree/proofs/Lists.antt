@@ -3,12 +3,12 @@ use Rattle.std.proofs.Common.{◌≡◌, ◌≢◌, ℕ, zero, suc, ◌+◌, ◌
 use Rattle.std.proofs.lemmas.Grind.{common_steps}
 use Rattle.std.proofs.lemmas.Bool.{false≢true}
 use Rattle.std.specs.Prelude.{◌==◌}
-use Rattle.script_model.specs.Faults as model
-use Rattle.script_model.specs.Faults.{TreeFault}
-use Rattle.script_model.specs.Bytes.{close_paren}
-use Rattle.script_model.specs.Results.{◌>>=◌}
-use Rattle.script_model.specs.Trees.{Tree, Branch, Nil}
-use Rattle.script_model.specs.Reading.{Here, here, Found, found, Row, with_tree, past_gap, Going, InputEnds, ListEnds, TreeComes, going_of, trees_by, list_by}
+use Rattle.spec_script.specs.Faults as model
+use Rattle.spec_script.specs.Faults.{TreeFault}
+use Rattle.spec_script.specs.Bytes.{close_paren}
+use Rattle.spec_script.specs.Results.{◌>>=◌}
+use Rattle.spec_script.specs.Trees.{Tree, Branch, Nil}
+use Rattle.spec_script.specs.Reading.{Here, here, Found, found, Row, with_tree, past_gap, Going, InputEnds, ListEnds, TreeComes, going_of, trees_by, list_by}
 use Rattle.script_tree.specs.declared.fault.TreeFault as code
 use Rattle.script_tree.specs.declared.fault.TreeFault.TheVariants as fault
 use Rattle.script_tree.specs.Pieces.{Piece, Opens, Closes, pieces, row_pieces}

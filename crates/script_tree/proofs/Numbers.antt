@@ -9,8 +9,8 @@ use Rattle.std.specs.Str.Parse.{ParsesSigned, digits_value, starts_with_minus}
 use Rattle.std.proofs.lemmas.Str.Parse.{IsNumeralModel, numerals_by_value, parse_signed_minus, parse_signed_digits}
 use Rattle.std.specs.Str.{IsUtf8, IsAscii}
 use Rattle.std.proofs.lemmas.Str.{IsUtf8-from_ascii}
-use Rattle.script_model.specs.Bytes.{is_digit, digit_zero}
-use Rattle.script_model.specs.Reading.{is_numeral}
+use Rattle.spec_script.specs.Bytes.{is_digit, digit_zero}
+use Rattle.spec_script.specs.Reading.{is_numeral}
 use Rattle.script_tree.specs.Numbers.{number_of, is_signed_numeral}
 
 digits : IsNumeralModel (λ ds. list_all is_digit ds ≡ true) (digits_value 10)

@@ -3,11 +3,11 @@ use Rattle.std.proofs.Common.{◌≡◌, ℕ, ◌<◌, ◌≤◌, List, [], ◌�
 use Rattle.std.proofs.lemmas.Grind.{common_steps}
 use Rattle.std.specs.Prelude.{nat_le, ◌==◌, if◌then◌else◌}
 use Rattle.std.specs.Str.Parse.{signed_digits_value}
-use Rattle.script_model.specs.Bytes.{is_letter, underscore}
-use Rattle.script_model.specs.Faults as fault
-use Rattle.script_model.specs.Faults.{TreeFault}
-use Rattle.script_model.specs.Trees.{Tree, Word, Number}
-use Rattle.script_model.specs.Reading.{is_number, run_tree}
+use Rattle.spec_script.specs.Bytes.{is_letter, underscore}
+use Rattle.spec_script.specs.Faults as fault
+use Rattle.spec_script.specs.Faults.{TreeFault}
+use Rattle.spec_script.specs.Trees.{Tree, Word, Number}
+use Rattle.spec_script.specs.Reading.{is_number, run_tree}
 use Rattle.script_tree.specs.Numbers.{number_of}
 
 abbrev Read : Type 0

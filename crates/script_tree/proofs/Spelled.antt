@@ -5,10 +5,10 @@ use Rattle.std.specs.Prelude.{OnOk}
 use Rattle.std.proofs.lemmas.Grind.{common_steps}
 use Rattle.std.specs.List.{flat_map}
 use Rattle.std.proofs.lemmas.List.Folds.{length-flat_map-take}
-use Rattle.script_model.specs.Bytes.{line_feed, space, quote, open_paren, close_paren}
-use Rattle.script_model.specs.Spelling.{item_spelling, text_spelling}
-use Rattle.script_model.specs.Trees.{Tree, Word, Number, Text, Branch, Trees, Nil, And}
-use Rattle.script_model.specs.Canonical.{canonical, canonical_row, canonical_rest, document}
+use Rattle.spec_script.specs.Bytes.{line_feed, space, quote, open_paren, close_paren}
+use Rattle.spec_script.specs.Spelling.{item_spelling, text_spelling}
+use Rattle.spec_script.specs.Trees.{Tree, Word, Number, Text, Branch, Trees, Nil, And}
+use Rattle.spec_script.specs.Canonical.{canonical, canonical_row, canonical_rest, document}
 use Rattle.script_tree.specs.declared.tree.Node.{Node}
 use Rattle.script_tree.specs.Pieces.{Piece, Closes, piece_of, pieces, row_pieces}
 use Rattle.script_tree.specs.Spelled.{piece_spelling, ends_tree, is_space_due, gap_if, spelled}

@@ -2,13 +2,13 @@
 use Rattle.std.proofs.Common.{◌≡◌, ℕ, ◌+◌, ◌<◌, ◌≤◌, List, [], ◌∷◌, ◌++◌, length, get_or, drop, Bool, true, false, Result, Ok, Err, refl, arith, ap, sym, ◌∙◌, append-nil, append_assoc}
 use Rattle.std.proofs.lemmas.Grind.{common_steps}
 use Rattle.std.specs.Prelude.{nat_lt}
-use Rattle.script_model.specs.Faults as fault
-use Rattle.script_model.specs.Faults.{TreeFault}
-use Rattle.script_model.specs.declared.TextByte.{TextByte}
-use Rattle.script_model.specs.declared.TextByte.TheVariants.{Item, Backslash, Quote, Unsound}
-use Rattle.script_model.specs.Limits.{most_text_items}
-use Rattle.script_model.specs.Results.{◌>>=◌}
-use Rattle.script_model.specs.Reading.{Here, here, Items, with_item, text_step, text_items}
+use Rattle.spec_script.specs.Faults as fault
+use Rattle.spec_script.specs.Faults.{TreeFault}
+use Rattle.spec_script.specs.declared.TextByte.{TextByte}
+use Rattle.spec_script.specs.declared.TextByte.TheVariants.{Item, Backslash, Quote, Unsound}
+use Rattle.spec_script.specs.Limits.{most_text_items}
+use Rattle.spec_script.specs.Results.{◌>>=◌}
+use Rattle.spec_script.specs.Reading.{Here, here, Items, with_item, text_step, text_items}
 use Rattle.script_tree.specs.Views.{from}
 use Rattle.script_tree.proofs.Gaps.{split_at}
 

@@ -4,12 +4,12 @@ use Rattle.std.proofs.lemmas.Grind.{common_steps}
 use Rattle.std.specs.Prelude.{◌==◌, if◌then◌else◌}
 use Rattle.std.specs.List.{take_while, prefix_len}
 use Rattle.std.proofs.lemmas.List.{take_min, length-take, drop-drop}
-use Rattle.script_model.specs.Faults as model
-use Rattle.script_model.specs.Faults.{TreeFault}
-use Rattle.script_model.specs.Bytes.{open_paren, close_paren, quote, is_run_byte}
-use Rattle.script_model.specs.Results.{◌>>=◌}
-use Rattle.script_model.specs.Trees.{Tree, Text}
-use Rattle.script_model.specs.Reading.{Here, here, Found, found, Items, Start, Opens, Closes, Quotes, Runs, Strange, start_of, tree_at, list_by, text_at, run_at, run_tree}
+use Rattle.spec_script.specs.Faults as model
+use Rattle.spec_script.specs.Faults.{TreeFault}
+use Rattle.spec_script.specs.Bytes.{open_paren, close_paren, quote, is_run_byte}
+use Rattle.spec_script.specs.Results.{◌>>=◌}
+use Rattle.spec_script.specs.Trees.{Tree, Text}
+use Rattle.spec_script.specs.Reading.{Here, here, Found, found, Items, Start, Opens, Closes, Quotes, Runs, Strange, start_of, tree_at, list_by, text_at, run_at, run_tree}
 use Rattle.script_tree.specs.Pieces.{Piece, leaf_of, pieces}
 use Rattle.script_tree.specs.Pieces as piece
 use Rattle.script_tree.specs.declared.run.Run.{Run}

@@ -3,11 +3,11 @@ use Rattle.std.proofs.Common.{◌≡◌, ℕ, ◌<◌, ◌≤◌, List, [], ◌�
 use Rattle.std.proofs.lemmas.Grind.{common_steps}
 use Rattle.std.proofs.lemmas.Bool.{false≢true}
 use Rattle.std.specs.Prelude.{IfErr}
-use Rattle.script_model.specs.Faults as model
-use Rattle.script_model.specs.Faults.{TreeFault}
-use Rattle.script_model.specs.Results.{◌>>=◌}
-use Rattle.script_model.specs.Trees.{Tree}
-use Rattle.script_model.specs.Reading.{Here, here, Found, past_gap, tree_at, alone, reading}
+use Rattle.spec_script.specs.Faults as model
+use Rattle.spec_script.specs.Faults.{TreeFault}
+use Rattle.spec_script.specs.Results.{◌>>=◌}
+use Rattle.spec_script.specs.Trees.{Tree}
+use Rattle.spec_script.specs.Reading.{Here, here, Found, past_gap, tree_at, alone, reading}
 use Rattle.script_tree.specs.declared.fault.TreeFault as code
 use Rattle.script_tree.specs.Pieces.{IsWhole, Piece, pieces, tree_of}
 use Rattle.script_tree.specs.TreeCode.{tree_of-pieces}

@@ -1,6 +1,6 @@
 -- Numbers of pieces that fit into 64 bits.
 use Rattle.std.specs.Prelude.{IsTrue}
-use Rattle.script_model.specs.Limits.{is_within}
+use Rattle.spec_script.specs.Limits.{is_within}
 use Rattle.script_tree.specs.Pieces.{Piece, Numbers}
 
 abbrev pub Fits : Piece → Type 0

@@ -1,7 +1,7 @@
 -- Pieces that grow by what is read.
 use Rattle.std.specs.Prelude.{ℕ, List, [], ◌∷◌, ◌++◌, Result, Ok, Err}
-use Rattle.script_model.specs.Faults.{TreeFault}
-use Rattle.script_model.specs.Reading.{Here, Found, Row}
+use Rattle.spec_script.specs.Faults.{TreeFault}
+use Rattle.spec_script.specs.Reading.{Here, Found, Row}
 use Rattle.script_tree.specs.Pieces.{Piece, Closes, pieces, row_pieces}
 use Rattle.script_tree.specs.Views.{from}
 

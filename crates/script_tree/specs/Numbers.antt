@@ -1,8 +1,8 @@
 -- The number that a run is, if it is one.
 use Rattle.std.specs.Prelude.{ℕ, ℤ, Bool, false, ◌==◌, if◌then◌else◌, List, [], ◌∷◌, Option, Some, None}
 use Rattle.std.specs.Str.Parse.{signed_digits_value}
-use Rattle.script_model.specs.Bytes.{minus}
-use Rattle.script_model.specs.Reading.{is_numeral, is_number}
+use Rattle.spec_script.specs.Bytes.{minus}
+use Rattle.spec_script.specs.Reading.{is_numeral, is_number}
 
 abbrev pub number_of : List ℕ → Option ℤ
 number_of run = if is_number run then Some (signed_digits_value 10 run) else None

@@ -1,6 +1,6 @@
 -- A tree as the row of its pieces in reading order.
 use Rattle.std.specs.Prelude.{◌≡◌, ℕ, ℤ, List, [], ◌∷◌, ◌++◌}
-use Rattle.script_model.specs.Trees.{Tree, Word, Number, Text, Branch, Trees, Nil, And}
+use Rattle.spec_script.specs.Trees.{Tree, Word, Number, Text, Branch, Trees, Nil, And}
 use Rattle.script_tree.specs.declared.tree.Node.{Node}
 use Rattle.script_tree.specs.declared.tree.Node.TheVariants as node
 

@@ -1,8 +1,8 @@
 -- The canonical spelling of a tree, piece by piece.
 use Rattle.std.specs.Prelude.{ℕ, Bool, true, false, List, [], ◌∷◌, ◌++◌}
 use Rattle.std.specs.Fmt.{signed_decimal}
-use Rattle.script_model.specs.Bytes.{space, open_paren, close_paren}
-use Rattle.script_model.specs.Spelling.{text_spelling}
+use Rattle.spec_script.specs.Bytes.{space, open_paren, close_paren}
+use Rattle.spec_script.specs.Spelling.{text_spelling}
 use Rattle.script_tree.specs.Pieces.{Piece, Words, Numbers, Texts, Opens, Closes}
 
 -- how a piece is spelled

@@ -2,7 +2,7 @@
 use Rattle.std.specs.Prelude.{◌≡◌, ℕ, ℤ, pos, zero, suc, List, [], ◌∷◌, ◌++◌, refl}
 use Rattle.std.proofs.Common.{ap, sym, ◌∙◌, append_assoc, append-nil}
 use Rattle.std.specs.Coded.{Coded, code_by, coded×, coded_ℕ, coded_ℤ, coded_list}
-use Rattle.script_model.specs.Trees.{Tree, Word, Number, Text, Branch, Trees, Nil, And}
+use Rattle.spec_script.specs.Trees.{Tree, Word, Number, Text, Branch, Trees, Nil, And}
 use Rattle.script_tree.specs.Pieces.{Piece, Words, Numbers, Texts, Opens, Closes, pieces, row_pieces, first, others, rows, first_tree, tree_of}
 
 mutual

@@ -1,13 +1,13 @@
 -- What a read gave, beside what the definitions give.
 use Rattle.std.specs.Prelude.{◌≡◌, ℕ, List, drop, Result, Ok, Err}
-use Rattle.script_model.specs.Faults as model
-use Rattle.script_model.specs.Reading.{Here, here, Items}
+use Rattle.spec_script.specs.Faults as model
+use Rattle.spec_script.specs.Reading.{Here, here, Items}
 use Rattle.script_tree.specs.declared.fault.TreeFault.{TreeFault}
 use Rattle.script_tree.specs.declared.fault.TreeFault.TheVariants as fault
 use Rattle.script_tree.specs.declared.text.TextRead.{TextRead}
 use Rattle.script_tree.specs.declared.run.Run.{Run}
 use Rattle.script_tree.specs.declared.run.Run.TheVariants as run
-use Rattle.script_model.specs.Trees.{Tree, Word, Number}
+use Rattle.spec_script.specs.Trees.{Tree, Word, Number}
 
 -- from a place on
 abbrev pub from : List ℕ → ℕ → Here

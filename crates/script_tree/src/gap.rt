@@ -1,8 +1,8 @@
 //! The gap between two trees: blanks and comments. The theorem is the clause `gap` of [`after_gap`].
 
 ghost use Rattle.std.specs.Prelude.{◌≡◌, ◌≤◌, length, drop, false};
-ghost use Rattle.script_model.specs.Bytes.{is_gap_byte};
-ghost use Rattle.script_model.specs.Reading as reading;
+ghost use Rattle.spec_script.specs.Bytes.{is_gap_byte};
+ghost use Rattle.spec_script.specs.Reading as reading;
 ghost use Rattle.script_tree.specs.Views.{from};
 
 fn is_gap_byte(byte: u8) -> bool

@@ -1,8 +1,8 @@
 //! Reading: trees in one another, from the left. The theorem is the clauses `ok` and `fault` of [`read_tree`].
 
 ghost use Rattle.std.specs.Prelude.{◌≡◌, ◌≤◌, ◌<◌, ◌+◌, length, drop, slice_index, true, Ok, IfOk, IfErr};
-ghost use Rattle.script_model.specs.Reading.{reading, tree_at, list_by, text_at, run_at};
-ghost use Rattle.script_model.specs.Bytes.{is_run_byte};
+ghost use Rattle.spec_script.specs.Reading.{reading, tree_at, list_by, text_at, run_at};
+ghost use Rattle.spec_script.specs.Bytes.{is_run_byte};
 ghost use Rattle.script_tree.specs.Views.{from, Gives, Fails};
 ghost use Rattle.script_tree.specs.Growing.{grown, grows};
 

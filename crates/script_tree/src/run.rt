@@ -3,8 +3,8 @@
 ghost use Rattle.std.specs.Prelude.{◌≡◌, ◌≤◌, ◌+◌, length, drop};
 ghost use Rattle.std.specs.List.{take_while, list_all};
 ghost use Rattle.std.specs.Str.Parse.{starts_with_minus};
-ghost use Rattle.script_model.specs.Bytes.{is_run_byte, is_digit, is_letter};
-ghost use Rattle.script_model.specs.Reading.{is_numeral, run_tree};
+ghost use Rattle.spec_script.specs.Bytes.{is_run_byte, is_digit, is_letter};
+ghost use Rattle.spec_script.specs.Reading.{is_numeral, run_tree};
 ghost use Rattle.script_tree.specs.Numbers.{number_of, is_signed_numeral};
 ghost use Rattle.script_tree.specs.Views.{Gives, run_of};
 

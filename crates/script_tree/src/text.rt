@@ -1,12 +1,12 @@
 //! Texts in quotes, with their escapes. The theorem is the clause `text` of [`read_text`].
 
 ghost use Rattle.std.specs.Prelude.{◌≡◌, ◌+◌, ◌<◌, ◌≤◌, length, drop, false, IfOk};
-ghost use Rattle.script_model.specs.Bytes.{is_plain};
-ghost use Rattle.script_model.specs.Reading as reading;
+ghost use Rattle.spec_script.specs.Bytes.{is_plain};
+ghost use Rattle.spec_script.specs.Reading as reading;
 ghost use Rattle.script_tree.specs.Views.{from, Gives, items_of};
 
 use crate::fault::TreeFault;
-use script_model::TextByte;
+use spec_script::TextByte;
 use std::alloc::Global;
 
 /// The most items of a text.

@@ -28,7 +28,7 @@ pub struct Tree {
 impl Model for Tree {
     ghost use Rattle.std.specs.Prelude.{map};
     ghost use Rattle.std.specs.List.{AllByRecursion as Each};
-    ghost use Rattle.script_model.specs.Trees as model;
+    ghost use Rattle.spec_script.specs.Trees as model;
     ghost use Rattle.script_tree.specs.Fitting.{Fits};
     ghost use Rattle.script_tree.specs.Pieces.{IsWhole, piece_of, tree_of};
     ghost use Rattle.script_tree.specs.TreeCode.{tree_code};

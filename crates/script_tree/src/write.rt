@@ -4,9 +4,9 @@
 //! [`write_tree`] cuts off the rest.
 
 ghost use Rattle.std.specs.Prelude.{◌≡◌, ◌≤◌, ◌+◌, [], ◌∷◌, ◌++◌, length, map, IsOk, OnOk, OnErr, vec_len, vec_capacity, false};
-ghost use Rattle.script_model.specs.Bytes.{line_feed};
-ghost use Rattle.script_model.specs.Spelling.{item_spelling, text_spelling};
-ghost use Rattle.script_model.specs.Canonical.{document};
+ghost use Rattle.spec_script.specs.Bytes.{line_feed};
+ghost use Rattle.spec_script.specs.Spelling.{item_spelling, text_spelling};
+ghost use Rattle.spec_script.specs.Canonical.{document};
 ghost use Rattle.script_tree.specs.Pieces.{piece_of};
 ghost use Rattle.script_tree.specs.Spelled as spelled;
 ghost use Rattle.script_tree.specs.Fronts.{IsFront};

@@ -4,7 +4,7 @@ use Rattle.eio_value.specs.declared.raised.Outcome.{Outcome}
 use Rattle.eio_value.specs.declared.value.Value.{Value}
 use Rattle.eio_value.specs.Sending.{Sent}
 use Rattle.eio_value.specs.Waking.{Test}
-use Rattle.row_model.specs.Row.{Queued}
+use Rattle.spec_parts.specs.Row.{Queued}
 use Rattle.wait_list.specs.Finding.{Finds, WakesFirst}
 use Rattle.wait_list.specs.Lists.{WaitingList}
 use Rattle.wait_list.specs.Waits.{count, EachCellOnce}

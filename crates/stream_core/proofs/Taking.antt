@@ -10,11 +10,11 @@ use Rattle.eio_value.specs.declared.value.Value.TheVariants as value
 use Rattle.eio_value.specs.declared.raised.Outcome.TheVariants as outcome
 use Rattle.eio_value.specs.Sending.{Sent, Resumes}
 use Rattle.eio_value.specs.Waking.{Test, IsKnown}
-use Rattle.model_laws.specs.Items.{items}
-use Rattle.row_model.specs.Data.{Stream}
-use Rattle.row_model.specs.Row.{Row, Queued, Takers, Waits, Stepped, otherwise, quiet, stepped}
-use Rattle.row_model.specs.Skipping.{waiters}
-use Rattle.row_model.specs.Streams.{take_does}
+use Rattle.law_parts.specs.Items.{items}
+use Rattle.spec_parts.specs.Data.{Stream}
+use Rattle.spec_parts.specs.Row.{Row, Queued, Takers, Waits, Stepped, otherwise, quiet, stepped}
+use Rattle.spec_parts.specs.Skipping.{waiters}
+use Rattle.spec_parts.specs.Streams.{take_does}
 use Rattle.wait_list.specs.Lists.{WaitingList}
 use Rattle.wait_list.specs.Meeting.{Meets}
 use Rattle.wait_list.specs.Waits.{others}

@@ -1,7 +1,7 @@
 -- A stream as the code keeps it.
 use Rattle.std.specs.Prelude.{◌≡◌, ℕ, ◌<◌, ◌≤◌, ◌^◌, List, [], ◌∷◌, length}
 use Rattle.eio_value.specs.declared.value.Value.{Value}
-use Rattle.row_model.specs.Row.{Queued}
+use Rattle.spec_parts.specs.Row.{Queued}
 use Rattle.wait_list.specs.Lists.{WaitingList}
 
 -- nobody waits on one of the two sides

@@ -3,20 +3,20 @@
 //! Its items stand in a ring of its capacity, and its two lists have room for each cell, so only `new` takes memory. Nobody waits to add
 //! where somebody waits to take (`HasOneSide`): a call enters its fiber only once it has found nobody alive on the other side, and then
 //! that list is empty. As fibers are entered behind and asked from the front, items leave in the order in which they were accepted, and
-//! who has waited longest comes first. The theorems are the clauses of the methods of [`Stream`], by `row_model`'s `Streams`; that items
-//! leave in order, whatever is called, is the law `items_in_order` of `model_laws`.
+//! who has waited longest comes first. The theorems are the clauses of the methods of [`Stream`], by `spec_parts`'s `Streams`; that items
+//! leave in order, whatever is called, is the law `items_in_order` of `law_parts`.
 
 ghost use Rattle.std.specs.Prelude.{◌≡◌, ◌↔◌, ◌+◌, ◌<◌, ◌≤◌, ℕ, Bool, true, false, pos, [], ◌∷◌, length, None, IfOk};
 ghost use Rattle.std.specs.List.{All};
 ghost use Rattle.eio_value.specs.declared.call.Call.TheVariants as call;
 ghost use Rattle.eio_value.specs.declared.message.Waiter.{Waiter as Wait};
 ghost use Rattle.eio_value.specs.Waking.{IsKnown};
-ghost use Rattle.model_laws.specs.Items.{items};
-ghost use Rattle.model_laws.specs.Waits.{HasEachCellOnce};
-ghost use Rattle.row_model.specs.Objects.{called};
-ghost use Rattle.row_model.specs.Row.{int};
-ghost use Rattle.row_model.specs.Skipping.{waiters};
-ghost use Rattle.row_model.specs.Streams as streams;
+ghost use Rattle.law_parts.specs.Items.{items};
+ghost use Rattle.law_parts.specs.Waits.{HasEachCellOnce};
+ghost use Rattle.spec_parts.specs.Objects.{called};
+ghost use Rattle.spec_parts.specs.Row.{int};
+ghost use Rattle.spec_parts.specs.Skipping.{waiters};
+ghost use Rattle.spec_parts.specs.Streams as streams;
 ghost use Rattle.stream_core.specs.Taking.{taken_answer};
 ghost use Rattle.wait_list.specs.Meeting.{Meets};
 
@@ -38,7 +38,7 @@ pub struct Stream {
 }
 
 impl Model for Stream {
-    ghost use Rattle.row_model.specs.Data as held;
+    ghost use Rattle.spec_parts.specs.Data as held;
     ghost use Rattle.wait_list.specs.Lists.{Core};
 
     ghost Value = { Core };

@@ -12,7 +12,7 @@ use Rattle.std.proofs.lemmas.Bool.{both_ways, cond-true, cond-false, ltb-true, l
 use Rattle.std.proofs.lemmas.Bool.Decides.{nat_tests}
 use Rattle.std.proofs.lemmas.List.{map-append}
 use Rattle.std.proofs.lemmas.List.Folds.{Any-from_list_any}
-use Rattle.row_model.specs.Switches.{without}
+use Rattle.spec_parts.specs.Switches.{without}
 use Rattle.switch_core.specs.Attached.{Entry, put, in_order, fibers_of, AreBefore, AreTimed}
 
 -- What holds of all

@@ -3,7 +3,7 @@ use Rattle.switch_core.specs.declared.answers.CloseStep.{CloseStep}
 use Rattle.switch_core.specs.declared.answers.CloseStep.TheVariants.{Wait, CancelDaemons, RunHandler, Return, Raise}
 use Rattle.switch_core.specs.declared.answers.ReleaseFault.{ReleaseFault}
 use Rattle.switch_core.specs.declared.answers.ReleaseFault.TheVariants.{Finished, NoMemory}
-use Rattle.row_model.specs.Switches as model
+use Rattle.spec_parts.specs.Switches as model
 
 -- the next step of `close`
 abbrev pub step_of : CloseStep → model.CloseStep

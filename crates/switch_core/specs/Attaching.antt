@@ -1,6 +1,6 @@
 -- Which fibers are attached to a switch.
 use Rattle.std.specs.Prelude.{ℕ, ◌⊎◌, Contains}
-use Rattle.row_model.specs.Switches.{Switch}
+use Rattle.spec_parts.specs.Switches.{Switch}
 
 -- it is attached, as a daemon or not
 abbrev pub IsAttached : (fiber : ℕ) → Switch → Type 0

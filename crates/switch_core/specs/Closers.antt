@@ -1,7 +1,7 @@
 -- Who waits in the `close` of a switch, in code and in the definition.
 use Rattle.switch_core.specs.declared.switch.Closer.{Closer}
 use Rattle.switch_core.specs.declared.switch.Closer.TheVariants.{Nobody, ForFibers, ForDaemons}
-use Rattle.row_model.specs.Switches as model
+use Rattle.spec_parts.specs.Switches as model
 
 abbrev pub closer_of : Closer → model.Closer
 closer_of Nobody = model.Nobody

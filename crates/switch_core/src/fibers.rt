@@ -5,7 +5,7 @@
 //! behind all that stand in the map.
 
 ghost use Rattle.std.specs.Prelude.{◌≡◌, ◌↔◌, [], ◌∷◌, ◌++◌, Contains, IsTrue, OnOk, OnErr};
-ghost use Rattle.row_model.specs.Switches.{without};
+ghost use Rattle.spec_parts.specs.Switches.{without};
 
 use std::alloc::{AllocError, Global};
 use std::collections::BTreeMap;

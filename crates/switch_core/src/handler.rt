@@ -51,7 +51,7 @@ pub struct Handler {
 }
 
 impl Model for Handler {
-    ghost use Rattle.row_model.specs.Switches as model;
+    ghost use Rattle.spec_parts.specs.Switches as model;
 
     ghost Value = { model.Handler };
 

@@ -9,11 +9,9 @@
 mod answers;
 mod fibers;
 mod handler;
-mod laws;
 mod switch;
 mod switches;
 
 pub use answers::{CloseStep, Finished, ReleaseFault};
 pub use handler::{Handler, Variables};
-pub use laws::{finished_is_empty, handlers_run_by_batches, handlers_run_once, next_is_told};
 pub use switches::Switches;

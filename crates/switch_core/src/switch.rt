@@ -2,9 +2,9 @@
 //! has to hold between its fields. What holds of a switch after any calls is stated in src/laws.
 
 ghost use Rattle.std.specs.Prelude.{◌≡◌, ◌↔◌, ◌∷◌, [], Some, IfErr, IsTrue, OnOk, OnErr, IfOk, None, false};
-ghost use Rattle.row_model.specs.Errors.{joined};
-ghost use Rattle.row_model.specs.Switches as model;
-ghost use Rattle.row_model.specs.Switches.{opened, refuses_fibers, attach, detach, wake_closer, fail, on_release, due_batch, fresh_beside, last_handler, all_but_last, finish, release, close_step, runs_handler};
+ghost use Rattle.spec_parts.specs.Errors.{joined};
+ghost use Rattle.spec_parts.specs.Switches as model;
+ghost use Rattle.spec_parts.specs.Switches.{opened, refuses_fibers, attach, detach, wake_closer, fail, on_release, due_batch, fresh_beside, last_handler, all_but_last, finish, release, close_step, runs_handler};
 ghost use Rattle.switch_core.specs.Attaching.{IsAttached};
 ghost use Rattle.switch_core.specs.Answers.{handler_in, step_of};
 
@@ -43,7 +43,7 @@ pub(crate) struct Switch {
 }
 
 impl Model for Switch {
-    ghost use Rattle.row_model.specs.Switches as model;
+    ghost use Rattle.spec_parts.specs.Switches as model;
     ghost use Rattle.switch_core.specs.Closers.{closer_of};
 
     ghost Value = { model.Switch };

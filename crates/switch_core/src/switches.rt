@@ -2,7 +2,7 @@
 //! same name; all others stay as they were.
 
 ghost use Rattle.std.specs.Prelude.{◌≡◌, ◌<◌, ◌-◌, ◌^◌, ◌↔◌, [], ◌∷◌, ◌++◌, length, None, Some, false, IfOk, IfErr, IsTrue, OnOk, OnErr, IsSomeAnd};
-ghost use Rattle.row_model.specs.Switches.{opened, switch_at, with_switch, refuses_fibers, attach, detach, fail, on_release, close_step, runs_handler};
+ghost use Rattle.spec_parts.specs.Switches.{opened, switch_at, with_switch, refuses_fibers, attach, detach, fail, on_release, close_step, runs_handler};
 ghost use Rattle.switch_core.specs.Answers.{handler_in, step_of};
 ghost use Rattle.switch_core.specs.Attaching.{IsAttached};
 
@@ -22,7 +22,7 @@ pub struct Switches {
 
 impl Model for Switches {
     ghost use Rattle.std.specs.Prelude.{List};
-    ghost use Rattle.row_model.specs.Switches as model;
+    ghost use Rattle.spec_parts.specs.Switches as model;
 
     ghost Value = { List model.Switch };
 

@@ -1,8 +1,8 @@
 //! Contexts, and the fibers that wait in them.
 
 ghost use Rattle.std.specs.Prelude.{◌≡◌, ◌+◌, ◌-◌, ◌<◌, ◌≤◌, ◌^◌, true, length, vec_len, vec_capacity};
-ghost use Rattle.row_model.specs.ContextCalls as calls;
-ghost use Rattle.row_model.specs.Contexts as model;
+ghost use Rattle.spec_parts.specs.ContextCalls as calls;
+ghost use Rattle.spec_parts.specs.Contexts as model;
 
 use cancel_tree::Contexts;
 use eio_value::{Full, Plain};

@@ -2,7 +2,7 @@
 
 use cancel_tree::Contexts;
 use run_queue::{Ready, Timers};
-use strike_queue::Strikes;
+use domain_strikes::Strikes;
 
 /// Only of a type that may move to another thread.
 fn may_move<T: Send>() {}

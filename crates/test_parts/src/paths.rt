@@ -2,7 +2,7 @@
 
 use eio_value::{Bytes, Entry, NoMemory, PathFault};
 use path_cap::{Cap, CapFault, DirTree};
-use row_model::PathKind;
+use spec_parts::PathKind;
 use std::alloc::Global;
 use std::test::Fail;
 

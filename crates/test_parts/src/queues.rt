@@ -1,7 +1,7 @@
 //! The ready list and the timers.
 
 ghost use Rattle.std.specs.Prelude.{◌≡◌};
-ghost use Rattle.row_model.specs.Timers as list;
+ghost use Rattle.spec_parts.specs.Timers as list;
 
 use eio_value::Full;
 use run_queue::{Ready, Timers};

@@ -1,12 +1,12 @@
 //! The strikes that a cancellation owes.
 
 ghost use Rattle.std.specs.Prelude.{◌≡◌, []};
-ghost use Rattle.row_model.specs.ContextCalls as calls;
+ghost use Rattle.spec_parts.specs.ContextCalls as calls;
 
 use cancel_tree::Contexts;
 use eio_value::{Full, Plain};
 use std::test::Fail;
-use strike_queue::{Strike, Strikes};
+use domain_strikes::{Strike, Strikes};
 
 /// Who makes a strike, and on whom.
 fn told(strike: Option<Strike>) -> Option<(u32, u32)> {

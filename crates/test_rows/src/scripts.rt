@@ -11,7 +11,7 @@ use crate::unanswered::Unanswered;
 use eio_value::{TextId, Texts};
 use script_input::input_script;
 use script_lang::{Decl, Node, ObjectCallWith, Script, generate, read_script};
-use script_model::Feature;
+use spec_script::Feature;
 use std::alloc::{AllocError, Global};
 
 /// The features up to streams and promises.

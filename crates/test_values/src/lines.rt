@@ -1,7 +1,7 @@
 //! The lines of the trace that moves write, and the numbers of statuses.
 
 ghost use Rattle.std.specs.Prelude.{◌≡◌, []};
-ghost use Rattle.trace_out.specs.TraceTexts.{CanTrace};
+ghost use Rattle.trace_lines.specs.TraceTexts.{CanTrace};
 
 use crate::log::{push_asked, push_count, push_heading};
 use eio_value::{NoMemory, Operands, Texts, Value};

@@ -1,9 +1,5 @@
 pub mod Causes
 pub mod Devices
-pub mod Exits
-pub mod HistoryTexts
 pub mod Input
 pub mod MemSinkInside
-pub mod Names
 pub mod Outcome
-pub mod TraceTexts

@@ -4,8 +4,8 @@ use Rattle.std.specs.Prelude.{◌≡◌, ℕ, ◌≤◌, List, drop, Some, None}
 use Rattle.std.specs.declared.option.Option.{Option}
 use Rattle.std.specs.Io.KnownBytes.{Keeps, Appends}
 use Rattle.trace_out.specs.Causes.{Rose, AppendsFront}
-use Rattle.trace_out.specs.declared.status.Status.{Status}
-use Rattle.trace_out.specs.declared.status.Status.TheVariants as status
+use Rattle.trace_lines.specs.declared.status.Status.{Status}
+use Rattle.trace_lines.specs.declared.status.Status.TheVariants as status
 
 -- one byte more than is accepted is read, and no more
 abbrev pub most_read : ℕ

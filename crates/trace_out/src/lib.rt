@@ -1,4 +1,4 @@
-//! What a run reads from, writes to and ends with: sources, sinks, gates, exit statuses and the lines of its trace.
+//! What a run reads from and writes to: sources, sinks and gates.
 //!
 //! A run reaches the outside through two traits alone. A `Source` may tell which bytes are left and a
 //! `Sink` which bytes it holds, and each counts its faults, so that a contract can name what was read,
@@ -6,33 +6,27 @@
 //! are told to; those over std's readers and writers tell nothing.
 //!
 //! The definitions that the clauses cite stand in specs/: `Causes` (faults, and fronts that were
-//! written), `Devices` (the sink in memory as a record, the numbers of calls), `Exits` (statuses), `Input` (what
-//! was read of an input), `Outcome` (what a command reads and writes by the status that it answers), `TraceTexts` (the
-//! lines of the trace that a move writes), `HistoryTexts` (the lines of a history), `Names` (of what is declared).
+//! written), `Devices` (the sink in memory as a record, the numbers of calls), `Input` (what was read of an input),
+//! `Outcome` (what a command reads and writes by the status that it answers).
 #![tactic(auto)]
 
 mod gate;
 mod input;
-mod line;
 mod mem_sink;
 mod mem_source;
 mod sink;
 mod source;
-mod status;
 mod std_io;
-mod trace_lines;
 mod writing;
 
 pub use gate::{Gate, OpenGate};
 pub use input::{InputError, read_input};
-pub use line::{Did, Line, Said2};
 pub use mem_sink::MemSink;
 pub use mem_source::MemSource;
 pub use sink::Sink;
 pub use source::Source;
-pub use status::Status;
 pub use std_io::{StdSink, StdSource};
-pub use trace_lines::render_trace;
+pub use trace_lines::{Did, Line, Said2, Status, render_trace};
 pub use writing::{WriteAll, write_all};
 
 /// A read or a write that failed. What it left is said by the clauses of the call that answers it.

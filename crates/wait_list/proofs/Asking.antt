@@ -4,8 +4,8 @@ use Rattle.std.proofs.lemmas.List.{map-append}
 use Rattle.eio_value.specs.Sending.{Sent}
 use Rattle.eio_value.specs.Waking.{Test, Keeps, IsKnown}
 use Rattle.eio_value.proofs.Scanning.{scan_lost}
-use Rattle.row_model.specs.Row.{Row, Queued, Side, queue, with_queue}
-use Rattle.row_model.specs.Skipping.{Skipping, waiters}
+use Rattle.spec_parts.specs.Row.{Row, Queued, Side, queue, with_queue}
+use Rattle.spec_parts.specs.Skipping.{Skipping, waiters}
 use Rattle.wait_list.specs.Finding.{Finds, Seeks}
 
 -- what a call gives on what is left behind the dead of a list, it gives on the row

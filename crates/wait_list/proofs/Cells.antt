@@ -4,8 +4,8 @@ use Rattle.std.specs.Prelude.{filter}
 use Rattle.std.proofs.lemmas.List.Elements.{All-nil, All-cons, All-head, All-tail, All-push, All-filter, filter-append}
 use Rattle.std.proofs.lemmas.List.Filters.{length-filter_both}
 use Rattle.std.proofs.lemmas.List.Folds.{list_any-append}
-use Rattle.model_laws.specs.Waits.{has_cell}
-use Rattle.row_model.specs.Row.{Queued, has_other_cell}
+use Rattle.law_parts.specs.Waits.{has_cell}
+use Rattle.spec_parts.specs.Row.{Queued, has_other_cell}
 use Rattle.wait_list.specs.Waits.{stands, count, others, EachCellOnce, AreBelow}
 
 eqb-refl-of : (a b : ℕ) → a ≡ b → (a == b) ≡ true

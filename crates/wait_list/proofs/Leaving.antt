@@ -2,8 +2,8 @@
 use Rattle.std.proofs.Common.{◌≡◌, ℕ, ◌+◌, ◌<◌, ◌==◌, ◌||◌, if◌then◌else◌, Bool, true, false, List, [], ◌∷◌, length, Some, None, refl, sym, ap, ◌∙◌, arith, slice_set, length-set}
 use Rattle.std.specs.Prelude.{find}
 use Rattle.std.proofs.lemmas.List.Elements.{All-cons, All-head, All-tail}
-use Rattle.model_laws.specs.Waits.{has_cell}
-use Rattle.row_model.specs.Row.{Queued, but_first}
+use Rattle.law_parts.specs.Waits.{has_cell}
+use Rattle.spec_parts.specs.Row.{Queued, but_first}
 use Rattle.wait_list.specs.Standing.{Holds}
 use Rattle.wait_list.specs.Waits.{stands, count, EachCellOnce, AreBelow}
 use Rattle.wait_list.proofs.Cells.{none_stands}

@@ -2,7 +2,7 @@
 use Rattle.std.proofs.Common.{◌≡◌, ℕ, ◌<◌, ◌≤◌, ◌==◌, Bool, true, false, List, [], ◌∷◌, ◌++◌, length, refl, sym, ◌∙◌, arith, eqb-true, slice_set, length-set, subst, slice_index_or}
 use Rattle.std.proofs.lemmas.List.{get_or-set_same, get_or-set_other}
 use Rattle.std.proofs.lemmas.List.Elements.{All-tail}
-use Rattle.row_model.specs.Row.{Queued}
+use Rattle.spec_parts.specs.Row.{Queued}
 use Rattle.wait_list.specs.Standing.{Holds}
 use Rattle.wait_list.specs.Waits.{stands, others}
 use Rattle.wait_list.proofs.Cells.{once_tail, first_is_gone, once_entered, below_entered, stands_entered, stands_besides, no_more_than_cells}

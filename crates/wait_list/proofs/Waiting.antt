@@ -2,8 +2,8 @@
 use Rattle.std.proofs.Common.{◌≡◌, Bool, true, false, ◌++◌, ◌∷◌, [], refl, None}
 use Rattle.eio_value.specs.declared.call.Answer.{Answer}
 use Rattle.eio_value.specs.declared.call.Answer.TheVariants as answer
-use Rattle.row_model.specs.Data.{Data}
-use Rattle.row_model.specs.Row.{Queued, Side, Takers, Adders, Waits, otherwise}
+use Rattle.spec_parts.specs.Data.{Data}
+use Rattle.spec_parts.specs.Row.{Queued, Side, Takers, Adders, Waits, otherwise}
 use Rattle.wait_list.specs.Lists.{WaitingList, only_side}
 use Rattle.wait_list.specs.Waits.{others}
 

@@ -3,8 +3,8 @@ use Rattle.std.specs.Prelude.{◌≡◌, Bool, List, [], ◌∷◌, ◌++◌, Op
 use Rattle.eio_value.specs.declared.raised.Outcome.{Outcome}
 use Rattle.eio_value.specs.Sending.{Sent, Resumes}
 use Rattle.eio_value.specs.Waking.{Test, Keeps, Skips, Scans, IsAlive}
-use Rattle.row_model.specs.Row.{Queued}
-use Rattle.row_model.specs.Skipping.{waiters}
+use Rattle.spec_parts.specs.Row.{Queued}
+use Rattle.spec_parts.specs.Skipping.{waiters}
 
 -- what is known of waits before and after the call, whether it is told which are alive, the list, and what the call gives on what is left behind the dead
 pub record Finds (knew knows : Test) (tells : Bool) (list : List Queued) (Gives : List Queued → Type 0) : Type 0 where

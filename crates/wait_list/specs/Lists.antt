@@ -1,7 +1,7 @@
 -- What contracts see: of a list its waiting fibers, and of an object its row, with the number of cells beside it.
 use Rattle.std.specs.Prelude.{ℕ, List}
-use Rattle.row_model.specs.Data.{Data}
-use Rattle.row_model.specs.Row.{Row, Queued, Side, Takers, opening, with_queue}
+use Rattle.spec_parts.specs.Data.{Data}
+use Rattle.spec_parts.specs.Row.{Row, Queued, Side, Takers, opening, with_queue}
 
 -- the fibers that wait, the oldest first, and how many cells there are
 pub record WaitingList : Type 0 where

@@ -3,9 +3,9 @@ use Rattle.std.specs.Prelude.{◌≡◌, ℕ, Bool}
 use Rattle.eio_value.specs.declared.call.Call.{Call}
 use Rattle.eio_value.specs.declared.message.Waiter.{Waiter}
 use Rattle.eio_value.specs.Waking.{Test, Keeps}
-use Rattle.row_model.specs.Objects.{does}
-use Rattle.row_model.specs.Row.{Row, Does, Ignores, Looks, Stepped, stepped}
-use Rattle.row_model.specs.Skipping.{Skipping}
+use Rattle.spec_parts.specs.Objects.{does}
+use Rattle.spec_parts.specs.Row.{Row, Does, Ignores, Looks, Stepped, stepped}
+use Rattle.spec_parts.specs.Skipping.{Skipping}
 
 -- a call that ignores who waits gives its step on the row as it is; one that looks at a list asks there in order, and gives its step on the row without the
 -- dead to which it came

@@ -1,6 +1,6 @@
 -- A list as the code keeps it: a queue, and a mark for each cell that says whether it stands there.
 use Rattle.std.specs.Prelude.{◌≡◌, ℕ, ◌<◌, ◌≤◌, Bool, List, length, slice_index_or, Option, Some, None}
-use Rattle.row_model.specs.Row.{Queued}
+use Rattle.spec_parts.specs.Row.{Queued}
 use Rattle.wait_list.specs.declared.queued.Queued.{Queued as Kept}
 use Rattle.wait_list.specs.Waits.{stands, EachCellOnce, AreBelow}
 

@@ -1,8 +1,8 @@
 -- Each cell stands in a list at most once, and each is one of the cells that there are.
 use Rattle.std.specs.Prelude.{ℕ, ◌==◌, ◌<◌, ◌≤◌, Bool, List, length, filter}
 use Rattle.std.specs.List.{All, list_any}
-use Rattle.model_laws.specs.Waits.{has_cell}
-use Rattle.row_model.specs.Row.{Queued, has_other_cell}
+use Rattle.law_parts.specs.Waits.{has_cell}
+use Rattle.spec_parts.specs.Row.{Queued, has_other_cell}
 
 -- whether a fiber with this cell stands in a list
 abbrev pub stands : ℕ → List Queued → Bool

@@ -5,7 +5,7 @@
 //! that it comes to ([`WaitList::wake_first`]). A cell stands in a list at most once, and so at most as many fibers as there are
 //! cells: their room is taken by the constructor, and no other call takes memory.
 //!
-//! Contracts see a list as its fibers in the form that rows have in `row_model`, with the number of cells beside it. The theorems are
+//! Contracts see a list as its fibers in the form that rows have in `spec_parts`, with the number of cells beside it. The theorems are
 //! the clauses of the methods. [`MemWake`] is a `Wake` in memory that is told which waits are dead.
 #![tactic(auto)]
 

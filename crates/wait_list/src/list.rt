@@ -6,7 +6,7 @@
 
 ghost use Rattle.std.specs.Prelude.{◌≡◌, ◌<◌, ◌≤◌, true, false, [], ◌∷◌, ◌++◌, ◌==◌, length, map, drop, find, slice_get, None, IfOk};
 ghost use Rattle.std.specs.List.{position};
-ghost use Rattle.row_model.specs.Row.{but_first};
+ghost use Rattle.spec_parts.specs.Row.{but_first};
 ghost use Rattle.std.specs.VecDeque.{deque_capacity};
 ghost use Rattle.wait_list.specs.Finding.{Finds, WakesFirst};
 ghost use Rattle.wait_list.specs.Standing.{found_of, queued_of};

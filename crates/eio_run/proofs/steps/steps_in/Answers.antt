@@ -1,5 +1,5 @@
 use Rattle.std.proofs.Common.{sym, lit<}
-use Rattle.script_model.specs.Limits.{most_steps}
+use Rattle.spec_script.specs.Limits.{most_steps}
 use Rattle.eio_run.proofs.Numbers.{first_false, first_true, large_number, other_number, refused_number, small_number, some_number}
 use Rattle.eio_run.proofs.steps.steps_in.Goals as goal
 

@@ -1,6 +1,6 @@
 use Rattle.std.proofs.Common.{Some, None, ap, ◌∙◌}
-use Rattle.trace_out.specs.declared.status.Status.TheVariants as status
-use Rattle.script_model.specs.declared.Command.TheVariants as command
+use Rattle.trace_lines.specs.declared.status.Status.TheVariants as status
+use Rattle.spec_script.specs.declared.Command.TheVariants as command
 use Rattle.mock_backend.specs.Causes.{EndsRaised, IsStuck}
 use Rattle.eio_run.proofs.Due.{check_comes, check_writes, mock_comes, mock_has_cause, mock_writes, no_deadlock, no_raise, other_has_none, print_comes, print_writes}
 use Rattle.eio_run.proofs.top.eio_run.Goals as goal

@@ -1,5 +1,5 @@
 use Rattle.std.proofs.Common.{◌≡◌, ◌++◌, map, drop}
-use Rattle.row_model.specs.Executors.{workers_from}
+use Rattle.spec_parts.specs.Executors.{workers_from}
 use Rattle.executor_pool.specs.Kept.{worker_of}
 use Rattle.executor_pool.proofs.crew.declared.Given as goal
 

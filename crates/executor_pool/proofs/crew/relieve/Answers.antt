@@ -1,7 +1,7 @@
 use Rattle.std.proofs.Common.{◌≡◌, ◌==◌, ◌<◌, ◌-◌, ℕ, List, length, Some, None, map, get_or, sym, ap, ◌∙◌, eqb-true, slice_set}
 use Rattle.std.specs.Prelude.{find}
 use Rattle.std.specs.List.{position}
-use Rattle.row_model.specs.Data.{Worker}
+use Rattle.spec_parts.specs.Data.{Worker}
 use Rattle.wait_list.proofs.Picking.{Picked, picked, nowhere}
 use Rattle.executor_pool.specs.declared.crew.Worker.{Worker as Kept}
 use Rattle.executor_pool.specs.Kept.{running_of, worker_of}

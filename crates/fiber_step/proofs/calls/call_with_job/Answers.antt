@@ -1,6 +1,6 @@
 use Rattle.std.proofs.Common.{map, ap, ◌∙◌, ◌≤◌, length, subst, sym}
-use Rattle.script_model.specs.Limits.{most_captured}
-use Rattle.step_model.specs.Evaluation.{value_at}
+use Rattle.spec_script.specs.Limits.{most_captured}
+use Rattle.spec_fiber.specs.Evaluation.{value_at}
 use Rattle.fiber_step.proofs.CallSteps.{fork_step, on_release_step, submit_step}
 use Rattle.fiber_step.proofs.Parts.{begins_within}
 use Rattle.fiber_step.proofs.Steps.{knows_node, known_at}

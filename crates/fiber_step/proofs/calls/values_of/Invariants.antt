@@ -1,6 +1,6 @@
 use Rattle.std.proofs.Common.{◌≡◌, map}
 use Rattle.std.specs.Prelude.{take}
-use Rattle.step_model.specs.Evaluation.{value_at}
+use Rattle.spec_fiber.specs.Evaluation.{value_at}
 use Rattle.fiber_step.proofs.calls.values_of.Given as goal
 
 abbrev pub invariant-loop-slot : goal.invariant-loop-slot

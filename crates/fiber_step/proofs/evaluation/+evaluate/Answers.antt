@@ -3,7 +3,7 @@ use Rattle.std.proofs.lemmas.Int.{to_z-of_z}
 use Rattle.eio_value.specs.declared.value.Value.TheVariants.{Int}
 use Rattle.script_forms.specs.Flat.{nodes_of}
 use Rattle.script_code.specs.Standing.{expression_at, behind_expression}
-use Rattle.step_model.specs.Evaluation.{value_of, Is}
+use Rattle.spec_fiber.specs.Evaluation.{value_of, Is}
 use Rattle.fiber_step.specs.Evaluating.{operand_value}
 use Rattle.fiber_step.specs.Having.{HasExpression}
 use Rattle.fiber_step.proofs.ExpressionNodes.{has_within, has_operands, behind_is_later, no_other}

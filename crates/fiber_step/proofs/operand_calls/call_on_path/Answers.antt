@@ -1,7 +1,7 @@
 use Rattle.std.proofs.Common.{rules, ◌≡◌, Err, length, sym, ap, ◌∙◌, subst}
 use Rattle.script_forms.specs.Flat.{nodes_of}
 use Rattle.script_code.specs.Standing.{expression_at, behind_expression}
-use Rattle.step_model.specs.Evaluation.{text_of}
+use Rattle.spec_fiber.specs.Evaluation.{text_of}
 use Rattle.fiber_step.specs.Having.{HasExpression}
 use Rattle.fiber_step.specs.Stepping.{IsStepOrRaiseIf}
 use Rattle.fiber_step.specs.Calling.{is_of_path}

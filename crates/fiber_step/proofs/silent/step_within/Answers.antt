@@ -2,7 +2,7 @@ use Rattle.std.proofs.Common.{rules, ◌≡◌, Err, length, sym, ap, ◌∙◌,
 use Rattle.script_forms.specs.Flat.{nodes_of}
 use Rattle.std.proofs.Common.{FitsSigned, w64, if◌then◌else◌}
 use Rattle.std.proofs.lemmas.Int.{to_z-of_z}
-use Rattle.step_model.specs.Silent.{is_zero}
+use Rattle.spec_fiber.specs.Silent.{is_zero}
 use Rattle.fiber_step.specs.Stepping.{IsStepOf, HasFewLeft, repeats_step}
 use Rattle.fiber_step.proofs.SilentSteps.{let_raises, let_step, form_step, if_raises, if_step, give_raises, give_step, raise_step, repeat_raises, repeat_step}
 use Rattle.fiber_step.proofs.StepKinds.{silent_only}

@@ -1,5 +1,5 @@
 use Rattle.std.proofs.Common.{◌≡◌, ◌++◌, take, drop}
-use Rattle.row_model.specs.Directories.{with_entry}
+use Rattle.spec_parts.specs.Directories.{with_entry}
 use Rattle.path_cap.proofs.directory.put_in_order.Given as goal
 
 abbrev pub invariant-loop-at : goal.invariant-loop-at

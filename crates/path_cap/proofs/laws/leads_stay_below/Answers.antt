@@ -1,5 +1,5 @@
 use Rattle.std.proofs.Common.{true}
-use Rattle.row_model.specs.Walk.{resolve}
+use Rattle.spec_parts.specs.Walk.{resolve}
 use Rattle.path_cap.proofs.Ways.{resolve_below, opened_below}
 use Rattle.path_cap.proofs.laws.leads_stay_below.Goals as goal
 

@@ -1,5 +1,5 @@
 use Rattle.std.proofs.Common.{ap}
-use Rattle.row_model.specs.PathCalls.{tree_after}
+use Rattle.spec_parts.specs.PathCalls.{tree_after}
 use Rattle.path_cap.proofs.laws.refused_changes_nothing.Goals as goal
 
 pub returns : goal.returns

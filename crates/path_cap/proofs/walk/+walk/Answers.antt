@@ -1,8 +1,8 @@
 use Rattle.std.proofs.Common.{◌≡◌, ℕ, Bool, true, false, List, [], ◌∷◌, ap, sym, ◌∙◌, if◌then◌else◌}
 use Rattle.std.proofs.lemmas.Result.{IfOk-weaker}
 use Rattle.eio_value.specs.declared.plain.PathFault.TheVariants.{PermissionDenied}
-use Rattle.row_model.specs.Walk.{Place, ToNothing, Refused, is_up, goes_down, walk}
-use Rattle.row_model.specs.Directories.{directory_at, held_by}
+use Rattle.spec_parts.specs.Walk.{Place, ToNothing, Refused, is_up, goes_down, walk}
+use Rattle.spec_parts.specs.Directories.{directory_at, held_by}
 use Rattle.path_cap.specs.Leading.{leads_of, to_file, to_link, by_link}
 use Rattle.path_cap.proofs.Walking.{onward, holds, holds_nothing, walk_ends, walk_up, walk_nothing, walk_file, walk_link, walk_inner, nothing_last, nothing_before, file_last, file_before, link_goes, link_ends}
 use Rattle.path_cap.proofs.walk.+walk.Goals as goal

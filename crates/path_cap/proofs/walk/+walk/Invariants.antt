@@ -1,5 +1,5 @@
 use Rattle.std.proofs.Common.{◌≡◌, ◌+◌, ◌*◌, length}
-use Rattle.row_model.specs.Walk as model
+use Rattle.spec_parts.specs.Walk as model
 use Rattle.path_cap.proofs.walk.+walk.Given as goal
 
 abbrev pub decreases-follow_link : goal.decreases-follow_link

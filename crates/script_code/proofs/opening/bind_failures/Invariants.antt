@@ -1,7 +1,7 @@
 use Rattle.std.proofs.Common.{◌≡◌, map, take}
 use Rattle.std.specs.Prelude.{fold}
 use Rattle.eio_value.specs.declared.plain.Plain.TheVariants.{Failure}
-use Rattle.script_model.specs.Opening.{with_bound}
+use Rattle.spec_script.specs.Opening.{with_bound}
 use Rattle.script_forms.specs.Failures.{HasFailures}
 use Rattle.script_code.proofs.opening.bind_failures.Given as goal
 

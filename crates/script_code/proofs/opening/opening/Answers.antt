@@ -1,5 +1,5 @@
 use Rattle.std.proofs.Common.{arith}
-use Rattle.script_model.specs.Opening.{textless}
+use Rattle.spec_script.specs.Opening.{textless}
 use Rattle.script_code.proofs.Openings.{bound_next, all_bound}
 use Rattle.script_code.proofs.opening.opening.Goals as goal
 

@@ -1,6 +1,6 @@
 use Rattle.std.proofs.Common.{◌≡◌, take}
 use Rattle.std.specs.Prelude.{fold}
-use Rattle.script_model.specs.Opening.{textless, with_bound}
+use Rattle.spec_script.specs.Opening.{textless, with_bound}
 use Rattle.script_code.proofs.opening.opening.Given as goal
 
 abbrev pub invariant-loop-what : goal.invariant-loop-what

@@ -1,5 +1,5 @@
 use Rattle.std.proofs.Common.{◌≡◌, length}
-use Rattle.script_model.specs.Declarations.{declarations_behind, nothing_declared}
+use Rattle.spec_script.specs.Declarations.{declarations_behind, nothing_declared}
 use Rattle.script_draft.specs.Ahead.{ahead, IsWithin}
 use Rattle.script_declarations.specs.DeclarationsRead.{declared_of, before_main, from_main}
 use Rattle.script_draft.specs.Drafts.{made_of}

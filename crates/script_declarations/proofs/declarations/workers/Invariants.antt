@@ -1,6 +1,6 @@
 use Rattle.std.proofs.Common.{◌≡◌, ◌++◌, length}
-use Rattle.script_model.specs.Reads.{Made, gives, ◌>>>◌}
-use Rattle.script_model.specs.Declarations.{workers}
+use Rattle.spec_script.specs.Reads.{Made, gives, ◌>>>◌}
+use Rattle.spec_script.specs.Declarations.{workers}
 use Rattle.script_draft.specs.Ahead.{ahead, IsWithin}
 use Rattle.script_declarations.proofs.declarations.workers.Given as goal
 

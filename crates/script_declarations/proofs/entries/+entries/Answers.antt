@@ -1,6 +1,6 @@
 use Rattle.std.proofs.Common.{refl, sym, ◌∙◌, []}
 use Rattle.std.proofs.lemmas.Result.{err_from_is_err_and}
-use Rattle.script_model.specs.Entries.{entries}
+use Rattle.spec_script.specs.Entries.{entries}
 use Rattle.script_draft.specs.Ahead.{ahead, tree_ahead}
 use Rattle.script_draft.specs.Drafts.{made_of}
 use Rattle.script_declarations.specs.EntriesRead.{names_in, names_onto}

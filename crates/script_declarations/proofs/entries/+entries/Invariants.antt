@@ -1,6 +1,6 @@
 use Rattle.std.proofs.Common.{◌≡◌, ◌+◌, ◌*◌, [], length}
-use Rattle.script_model.specs.Entries.{entries}
-use Rattle.script_model.specs.Reads.{gives, ◌>>>◌}
+use Rattle.spec_script.specs.Entries.{entries}
+use Rattle.spec_script.specs.Reads.{gives, ◌>>>◌}
 use Rattle.script_draft.specs.Ahead.{ahead, IsWithin}
 use Rattle.script_draft.specs.Drafts.{made_of}
 use Rattle.script_declarations.specs.EntriesRead.{names_in, listed}

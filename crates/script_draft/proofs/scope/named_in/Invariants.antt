@@ -1,5 +1,5 @@
 use Rattle.std.proofs.Common.{◌≡◌, map, drop}
-use Rattle.script_model.specs.Scopes.{named_in}
+use Rattle.spec_script.specs.Scopes.{named_in}
 use Rattle.script_draft.specs.Names.{named_of}
 use Rattle.script_draft.proofs.scope.named_in.Given as goal
 

@@ -1,5 +1,5 @@
 use Rattle.std.proofs.Common.{◌≡◌, ◌++◌, ◌-◌}
-use Rattle.script_model.specs.Generator.{row_of, generated_forks}
+use Rattle.spec_script.specs.Generator.{row_of, generated_forks}
 use Rattle.script_tree.specs.Pieces.{row_pieces}
 use Rattle.script_lang.proofs.generator.push_forks.Given as goal
 

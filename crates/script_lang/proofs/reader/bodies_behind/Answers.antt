@@ -1,5 +1,5 @@
 use Rattle.std.proofs.Common.{◌≡◌, true, refl, ap, subst, sym, ◌∙◌}
-use Rattle.script_model.specs.Scripts.{body_scope}
+use Rattle.spec_script.specs.Scripts.{body_scope}
 use Rattle.script_tree.specs.Pieces.{Piece}
 use Rattle.script_draft.specs.Ahead.{ahead, tree_ahead}
 use Rattle.script_declarations.specs.DeclarationsRead.{declared_of, is_main}

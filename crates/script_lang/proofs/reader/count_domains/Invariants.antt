@@ -1,5 +1,5 @@
 use Rattle.std.proofs.Common.{◌≡◌, ◌+◌, length}
-use Rattle.script_model.specs.Scripts.{domains_in}
+use Rattle.spec_script.specs.Scripts.{domains_in}
 use Rattle.script_draft.specs.Ahead.{ahead}
 use Rattle.script_lang.proofs.reader.count_domains.Given as goal
 

@@ -1,6 +1,6 @@
 use Rattle.std.proofs.Common.{◌∷◌, ◌++◌, [], arith, ap, sym, ◌∙◌}
 use Rattle.std.proofs.lemmas.Result.{err_from_is_err_and}
-use Rattle.script_model.specs.Scripts.{first_place}
+use Rattle.spec_script.specs.Scripts.{first_place}
 use Rattle.script_lang.proofs.ScriptsRead.{main_read, main_behind, bodies_next, bodies_fail, bodies_end, full_by}
 use Rattle.script_lang.proofs.reader.read_bodies.Goals as goal
 

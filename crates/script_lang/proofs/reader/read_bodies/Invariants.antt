@@ -1,7 +1,7 @@
 use Rattle.std.proofs.Common.{◌≡◌, length, Some}
-use Rattle.script_model.specs.Declarations.{Declared}
-use Rattle.script_model.specs.Scripts.{parts_of, body_scope, first_place}
-use Rattle.script_model.specs.Trees.{Trees, Nil}
+use Rattle.spec_script.specs.Declarations.{Declared}
+use Rattle.spec_script.specs.Scripts.{parts_of, body_scope, first_place}
+use Rattle.spec_script.specs.Trees.{Trees, Nil}
 use Rattle.script_draft.specs.Ahead.{ahead}
 use Rattle.script_lang.proofs.ScriptsRead.{IsAmidBodies}
 use Rattle.script_lang.proofs.reader.read_bodies.Given as goal

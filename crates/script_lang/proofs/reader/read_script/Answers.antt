@@ -1,6 +1,6 @@
 use Rattle.std.proofs.Common.{Ok, ap, sym, ◌∙◌}
 use Rattle.std.proofs.lemmas.Result.{err_from_is_err_and}
-use Rattle.script_model.specs.Scripts.{script_of}
+use Rattle.spec_script.specs.Scripts.{script_of}
 use Rattle.script_lang.proofs.Outlined.{IsFinished, is_read, is_script_of}
 use Rattle.script_lang.proofs.reader.read_script.Goals as goal
 

@@ -1,7 +1,7 @@
 use Rattle.std.proofs.Common.{◌≡◌, w64, rules, codes, ap, sym, ◌∙◌}
 use mir.Val.{to_z, of_z}
-use Rattle.script_model.specs.Scripts.{is_one}
-use Rattle.script_model.specs.Trees.{place_of}
+use Rattle.spec_script.specs.Scripts.{is_one}
+use Rattle.spec_script.specs.Trees.{place_of}
 use Rattle.script_draft.specs.Ahead.{ahead, tree_ahead}
 use Rattle.script_lang.proofs.ScriptsRead.{root_no_list, root_other, root_known, root_no_version, root_no_main, root_version, root_read, flipped, flipped_true}
 use Rattle.script_lang.proofs.reader.root.Goals as goal

@@ -1,9 +1,9 @@
 use Rattle.std.proofs.Common.{refl}
-use Rattle.script_model.specs.Forms as forms
-use Rattle.script_model.specs.Kinds.{ContextKind, SwitchKind}
-use Rattle.script_model.specs.Statements.{form}
-use Rattle.script_model.specs.Syntax as syntax
-use Rattle.script_model.specs.Trees.{And}
+use Rattle.spec_script.specs.Forms as forms
+use Rattle.spec_script.specs.Kinds.{ContextKind, SwitchKind}
+use Rattle.spec_script.specs.Statements.{form}
+use Rattle.spec_script.specs.Syntax as syntax
+use Rattle.spec_script.specs.Trees.{And}
 use Rattle.script_draft.specs.Ahead.{ahead}
 use Rattle.script_forms.specs.Flat.{flat_statement}
 use Rattle.script_statements.specs.declared.bodies.BodyForm.TheVariants as body

@@ -1,7 +1,7 @@
 use Rattle.std.proofs.Common.{refl}
 use Rattle.std.proofs.lemmas.Result.{err_from_is_err_and}
-use Rattle.script_model.specs.Syntax as syntax
-use Rattle.script_model.specs.Statements.{form}
+use Rattle.spec_script.specs.Syntax as syntax
+use Rattle.spec_script.specs.Statements.{form}
 use Rattle.script_draft.specs.Drafts.{made_of}
 use Rattle.script_forms.specs.Flat.{flat_statement, flat_expression}
 use Rattle.script_forms.specs.declared.node.Node.TheVariants as node

@@ -1,7 +1,7 @@
 use Rattle.std.proofs.Common.{sym, ◌∙◌, [], refl, append-nil}
 use Rattle.std.proofs.lemmas.Result.{err_from_is_err_and}
-use Rattle.script_model.specs.Syntax as syntax
-use Rattle.script_model.specs.Statements.{form}
+use Rattle.spec_script.specs.Syntax as syntax
+use Rattle.spec_script.specs.Statements.{form}
 use Rattle.script_forms.specs.Flat.{flat_statement}
 use Rattle.script_forms.specs.declared.node.Node.TheVariants as node
 use Rattle.script_draft.proofs.Counts.{one_tree, one_ahead}

@@ -1,8 +1,8 @@
 use Rattle.std.proofs.Common.{◌++◌, [], ◌∷◌, Bool, false, arith, ap, sym, subst, ◌∙◌}
 use Rattle.std.proofs.lemmas.Result.{err_from_is_err_and}
 use Rattle.std.proofs.lemmas.Bool.{false≢true}
-use Rattle.script_model.specs.Trees.{Tree, Word, And}
-use Rattle.script_model.specs.Statements as model
+use Rattle.spec_script.specs.Trees.{Tree, Word, And}
+use Rattle.spec_script.specs.Statements as model
 use Rattle.script_draft.specs.Ahead.{ahead, tree_ahead}
 use Rattle.script_statements.specs.Blocks.{is_last, list_word}
 use Rattle.script_draft.specs.Drafts.{made_of}

@@ -1,5 +1,5 @@
 use Rattle.std.proofs.Common.{◌≡◌, ◌≤◌, ◌-◌, length, drop, false}
-use Rattle.script_model.specs.Reading.{past_gap}
+use Rattle.spec_script.specs.Reading.{past_gap}
 use Rattle.script_tree.proofs.gap.after_gap.Given as goal
 
 abbrev pub invariant-loop-at : goal.invariant-loop-at

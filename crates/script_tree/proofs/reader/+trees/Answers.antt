@@ -1,6 +1,6 @@
 use Rattle.std.proofs.Common.{◌<◌, ◌-◌, ap, sym, subst, arith, ◌∙◌}
 use Rattle.std.proofs.lemmas.Result.{err_from_is_err_and}
-use Rattle.script_model.specs.Reading.{tree_at}
+use Rattle.spec_script.specs.Reading.{tree_at}
 use Rattle.script_tree.specs.Views.{Gives}
 use Rattle.script_tree.specs.Growing.{grown, grows}
 use Rattle.script_tree.proofs.Lists.{list_begins, list_closes, list_goes_on, list_fails, list_unclosed, fault_given}

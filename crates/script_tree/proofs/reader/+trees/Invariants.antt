@@ -1,5 +1,5 @@
 use Rattle.std.proofs.Common.{◌≤◌, ◌<◌, ◌-◌, ◌+◌, ◌*◌, length, drop}
-use Rattle.script_model.specs.Reading.{tree_at, list_by}
+use Rattle.spec_script.specs.Reading.{tree_at, list_by}
 use Rattle.script_tree.specs.Growing.{grows}
 use Rattle.script_tree.proofs.Lists.{IsListRead}
 use Rattle.script_tree.proofs.reader.+trees.Given as goal

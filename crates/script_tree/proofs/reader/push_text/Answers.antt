@@ -1,5 +1,5 @@
 use Rattle.std.proofs.Common.{false, ◌+◌, drop}
-use Rattle.script_model.specs.Reading.{text_items}
+use Rattle.spec_script.specs.Reading.{text_items}
 use Rattle.script_tree.specs.Views.{from}
 use Rattle.script_tree.proofs.Trees.{text_grows}
 use Rattle.script_tree.proofs.reader.push_text.Goals as goal

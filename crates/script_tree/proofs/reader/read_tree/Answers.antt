@@ -1,6 +1,6 @@
 use Rattle.std.proofs.Common.{ap, sym, subst, arith, ◌∙◌, List}
 use Rattle.std.proofs.lemmas.Result.{err_from_is_err_and}
-use Rattle.script_model.specs.Reading.{tree_at}
+use Rattle.spec_script.specs.Reading.{tree_at}
 use Rattle.script_tree.specs.Pieces.{Piece}
 use Rattle.script_tree.specs.Views.{from, Fails}
 use Rattle.script_tree.specs.Growing.{grows}

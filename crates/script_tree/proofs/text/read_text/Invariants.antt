@@ -1,5 +1,5 @@
 use Rattle.std.proofs.Common.{◌≡◌, ◌≤◌, ◌<◌, ◌-◌, ◌+◌, length, drop, false}
-use Rattle.script_model.specs.Reading.{text_items}
+use Rattle.spec_script.specs.Reading.{text_items}
 use Rattle.script_tree.proofs.Texts.{with_front}
 use Rattle.script_tree.proofs.text.read_text.Given as goal
 

@@ -1,7 +1,7 @@
 use Rattle.std.proofs.Common.{◌≤◌, ◌+◌, ◌∷◌, length, vec_len, vec_capacity, take, arith}
 use Rattle.std.specs.List.{flat_map}
-use Rattle.script_model.specs.Bytes.{quote}
-use Rattle.script_model.specs.Spelling.{item_spelling, text_spelling}
+use Rattle.spec_script.specs.Bytes.{quote}
+use Rattle.spec_script.specs.Spelling.{item_spelling, text_spelling}
 use Rattle.std.proofs.lemmas.Bool.{false≢true}
 use Rattle.script_tree.proofs.Fronts.{front_appended, front_passed, after_err}
 use Rattle.script_tree.proofs.Spelled.{item_within}

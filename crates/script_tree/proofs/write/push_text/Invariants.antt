@@ -1,7 +1,7 @@
 use Rattle.std.proofs.Common.{◌≡◌, ◌≤◌, ◌∷◌, ◌++◌, take, vec_capacity}
 use Rattle.std.specs.List.{flat_map}
-use Rattle.script_model.specs.Bytes.{quote}
-use Rattle.script_model.specs.Spelling.{item_spelling}
+use Rattle.spec_script.specs.Bytes.{quote}
+use Rattle.spec_script.specs.Spelling.{item_spelling}
 use Rattle.script_tree.proofs.write.push_text.Given as goal
 
 abbrev pub invariant-loop-item : goal.invariant-loop-item

@@ -1,5 +1,5 @@
 use Rattle.std.proofs.Common.{◌≤◌, ◌+◌, length, vec_len, vec_capacity}
-use Rattle.script_model.specs.Canonical.{document}
+use Rattle.spec_script.specs.Canonical.{document}
 use Rattle.script_tree.proofs.Spelled.{document_is, document_pushed}
 use Rattle.script_tree.proofs.write.write_tree.Goals as goal
 

@@ -1,6 +1,6 @@
 use Rattle.std.proofs.Common.{rules, refl, ℕ, ◌≡◌, ◌==◌, not, map, filter, cond, ◌∷◌, List, [], ap, true, false}
 use Rattle.std.proofs.lemmas.Fn.{filter_same}
-use Rattle.row_model.specs.Row.{Queued}
+use Rattle.spec_parts.specs.Row.{Queued}
 use Rattle.wait_list.specs.declared.queued.Queued.{Queued as Kept}
 use Rattle.wait_list.specs.Standing.{queued_of}
 use Rattle.wait_list.specs.Waits.{others}

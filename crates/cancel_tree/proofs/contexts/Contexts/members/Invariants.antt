@@ -1,6 +1,6 @@
 use Rattle.std.proofs.Common.{◌≡◌, ◌≤◌, ◌+◌, ◌++◌, length, map, vec_len, vec_capacity}
 use Rattle.std.specs.VecDeque.Iter.{deque_iter_rest}
-use Rattle.row_model.specs.Contexts.{reached}
+use Rattle.spec_parts.specs.Contexts.{reached}
 use Rattle.cancel_tree.specs.Entered.{waiting_of}
 use Rattle.cancel_tree.proofs.contexts.Contexts.members.Given as goal
 

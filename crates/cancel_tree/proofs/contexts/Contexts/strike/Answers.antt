@@ -1,6 +1,6 @@
 use Rattle.std.proofs.Common.{◌≡◌, true, ◌++◌, ap, ◌∙◌, sym}
-use Rattle.row_model.specs.Contexts.{takes_effect}
-use Rattle.row_model.specs.ContextCalls.{members}
+use Rattle.spec_parts.specs.Contexts.{takes_effect}
+use Rattle.spec_parts.specs.ContextCalls.{members}
 use Rattle.cancel_tree.proofs.Striking.{struck_some}
 use Rattle.cancel_tree.proofs.contexts.Contexts.strike.Goals as goal
 

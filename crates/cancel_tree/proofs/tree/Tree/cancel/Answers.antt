@@ -1,6 +1,6 @@
 use Rattle.std.proofs.Common.{◌≡◌, Some, true, ◌∙◌, sym, ap}
 use Rattle.std.specs.Prelude.{is_some}
-use Rattle.row_model.specs.Contexts.{is_live, takes_effect, cancel}
+use Rattle.spec_parts.specs.Contexts.{is_live, takes_effect, cancel}
 use Rattle.cancel_tree.specs.Places.{place_at}
 use Rattle.cancel_tree.proofs.Jumping.{jumps_cancelled}
 use Rattle.cancel_tree.proofs.Changes.{cancelled_tree, cancelled_list, takes, takes_not_live, cancel_none}

@@ -2,7 +2,7 @@ use Rattle.std.proofs.Common.{rules, ◌≡◌, ◌<◌, ◌+◌, Some, true, �
 use Rattle.std.specs.Prelude.{slice_get, is_some}
 use Rattle.std.proofs.lemmas.List.Sorted.{IsPartitionPoint-from_clause}
 use Rattle.slab.specs.Slab.{get}
-use Rattle.row_model.specs.Contexts.{is_live}
+use Rattle.spec_parts.specs.Contexts.{is_live}
 use Rattle.cancel_tree.specs.declared.kept.Place.{Place}
 use Rattle.cancel_tree.specs.Kept.{contexts_in}
 use Rattle.cancel_tree.specs.Places.{place_at}

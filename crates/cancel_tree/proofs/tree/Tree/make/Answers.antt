@@ -1,6 +1,6 @@
 use Rattle.std.proofs.Common.{◌≡◌, ◌<◌, ◌+◌, ◌++◌, ◌∷◌, [], Some, None, true, false, ◌∙◌, sym, ap, length, arith}
 use Rattle.std.specs.Option.{option_map}
-use Rattle.row_model.specs.Contexts.{is_full, is_live, live_count, new_context}
+use Rattle.spec_parts.specs.Contexts.{is_full, is_live, live_count, new_context}
 use Rattle.cancel_tree.specs.declared.kept.Place.{Place}
 use Rattle.cancel_tree.specs.Kept.{contexts_in}
 use Rattle.cancel_tree.specs.Places.{place_at}

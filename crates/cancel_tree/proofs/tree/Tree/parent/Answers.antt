@@ -1,6 +1,6 @@
 use Rattle.std.proofs.Common.{◌≡◌, Some, None, ◌∙◌, sym, ap}
 use Rattle.std.specs.Option.{option_map}
-use Rattle.row_model.specs.Contexts.{Context, context_at}
+use Rattle.spec_parts.specs.Contexts.{Context, context_at}
 use Rattle.cancel_tree.specs.declared.kept.Place.{Place}
 use Rattle.cancel_tree.specs.Kept.{context_of}
 use Rattle.cancel_tree.specs.Places.{place_at}

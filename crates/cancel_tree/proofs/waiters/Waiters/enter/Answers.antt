@@ -1,7 +1,7 @@
 use Rattle.std.proofs.Common.{rules, ◌≡◌, ◌≤◌, ◌<◌, ◌+◌, sym, ap, ◌∙◌, length, map, nat_lt, false, arith, deque_capacity}
 use Rattle.std.proofs.lemmas.List.{length-map}
 use Rattle.std.proofs.lemmas.List.Sorted.{IsPartitionPoint-from_clause}
-use Rattle.row_model.specs.ContextCalls.{put_in}
+use Rattle.spec_parts.specs.ContextCalls.{put_in}
 use Rattle.cancel_tree.specs.declared.waiters.Entered.{Entered}
 use Rattle.cancel_tree.specs.Entered.{waiting_of}
 use Rattle.cancel_tree.specs.Waits.{waits}

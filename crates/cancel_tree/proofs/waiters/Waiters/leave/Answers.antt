@@ -1,6 +1,6 @@
 use Rattle.std.proofs.Common.{rules, ◌≡◌, ◌≤◌, ◌<◌, ◌+◌, sym, ap, ◌∙◌, length, get_or, map, nat_lt, Some, true, arith}
 use Rattle.std.proofs.lemmas.List.Sorted.{IsPartitionPoint-from_clause}
-use Rattle.row_model.specs.ContextCalls.{taken_out}
+use Rattle.spec_parts.specs.ContextCalls.{taken_out}
 use Rattle.cancel_tree.specs.declared.waiters.Entered.{Entered}
 use Rattle.cancel_tree.specs.Entered.{waiting_of}
 use Rattle.cancel_tree.specs.Waits.{waits}

@@ -1,10 +1,10 @@
 use Rattle.std.proofs.Common.{◌∙◌, sym, subst}
-use Rattle.machine_model.specs.Domain.{ForCancel, Parked, stands}
-use Rattle.machine_model.specs.Moves.{own_call}
-use Rattle.machine_model.specs.Steps.{goes_off, waits}
+use Rattle.spec_machine.specs.Domain.{ForCancel, Parked, stands}
+use Rattle.spec_machine.specs.Moves.{own_call}
+use Rattle.spec_machine.specs.Steps.{goes_off, waits}
 use Rattle.script_forms.specs.Flat.{nodes_of}
-use Rattle.trace_out.specs.declared.line.Did.TheVariants as did
-use Rattle.trace_out.specs.declared.line.Said2.TheVariants as said
+use Rattle.trace_lines.specs.declared.line.Did.TheVariants as did
+use Rattle.trace_lines.specs.declared.line.Said2.TheVariants as said
 use Rattle.domain_core.specs.Conditions.{RunsInLive}
 use Rattle.domain_core.proofs.Awaiting.{awaits_becomes, off_waits, on_waits}
 use Rattle.domain_core.proofs.Composing.{makes_as, makes_told}

@@ -1,6 +1,6 @@
 use Rattle.std.proofs.Common.{◌<◌, ◌-◌, ◌∙◌, ap, length, sym, subst, List}
-use Rattle.row_model.specs.Groups.{Group, group_at}
-use Rattle.machine_model.specs.GroupMoves.{branch_ended}
+use Rattle.spec_parts.specs.Groups.{Group, group_at}
+use Rattle.spec_machine.specs.GroupMoves.{branch_ended}
 use Rattle.domain_core.specs.Answering.{BecomesUnder}
 use Rattle.domain_core.specs.Conditions.{LeavesGroups}
 use Rattle.domain_core.specs.contracts.domain.Domain.{the_view}

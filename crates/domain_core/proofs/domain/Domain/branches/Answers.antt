@@ -6,11 +6,11 @@ use Rattle.fiber_step.specs.Standing.{branches_at}
 use Rattle.script_forms.specs.Calls.{group_of}
 use Rattle.script_forms.specs.Flat.{nodes_of}
 use Rattle.script_forms.specs.declared.node.Node.{Node}
-use Rattle.step_model.specs.Silent.{blocks_of}
-use Rattle.trace_out.specs.declared.line.Did.{Did}
-use Rattle.trace_out.specs.declared.line.Said2.{Said2}
-use Rattle.machine_model.specs.GroupMoves.{first_of}
-use Rattle.machine_model.specs.Steps.{halts}
+use Rattle.spec_fiber.specs.Silent.{blocks_of}
+use Rattle.trace_lines.specs.declared.line.Did.{Did}
+use Rattle.trace_lines.specs.declared.line.Said2.{Said2}
+use Rattle.spec_machine.specs.GroupMoves.{first_of}
+use Rattle.spec_machine.specs.Steps.{halts}
 use Rattle.domain_core.specs.declared.told.Told.{Told}
 use Rattle.domain_core.specs.Answering.{MakesUnder}
 use Rattle.domain_core.specs.Keeping.{KeptDomain, KeptFiber, kept_at}

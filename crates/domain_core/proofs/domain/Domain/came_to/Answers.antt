@@ -4,7 +4,7 @@ use Rattle.std.proofs.lemmas.Option.{same_Some}
 use Rattle.eio_value.specs.declared.plain.Plain.TheVariants.{Exit}
 use Rattle.eio_value.specs.declared.raised.Outcome.TheVariants as outcome
 use Rattle.eio_value.specs.declared.raised.Raised.{Raised}
-use Rattle.row_model.specs.Contexts.{off}
+use Rattle.spec_parts.specs.Contexts.{off}
 use Rattle.domain_core.specs.declared.standing.Next.{Next}
 use Rattle.domain_core.specs.declared.standing.Next.TheVariants as next
 use Rattle.domain_core.specs.declared.standing.Standing.TheVariants as standing

@@ -2,13 +2,13 @@ use Rattle.std.proofs.Common.{◌≡◌, ℕ, true, false, List, ◌∙◌, sym,
 use Rattle.std.proofs.lemmas.Result.{on_ok_weaker}
 use Rattle.eio_value.specs.declared.plain.Misuse.TheVariants.{ContextFinished}
 use Rattle.eio_value.specs.declared.plain.Plain.TheVariants.{Failure, Invalid}
-use Rattle.row_model.specs.Contexts.{is_live}
+use Rattle.spec_parts.specs.Contexts.{is_live}
 use Rattle.script_forms.specs.Flat.{nodes_of}
 use Rattle.script_forms.specs.declared.node.Node.{Node}
-use Rattle.trace_out.specs.declared.line.Did.TheVariants as did
-use Rattle.machine_model.specs.Domain.{DomainState}
-use Rattle.machine_model.specs.Moves.{own_call}
-use Rattle.machine_model.specs.Steps.{cancels, does, raises}
+use Rattle.trace_lines.specs.declared.line.Did.TheVariants as did
+use Rattle.spec_machine.specs.Domain.{DomainState}
+use Rattle.spec_machine.specs.Moves.{own_call}
+use Rattle.spec_machine.specs.Steps.{cancels, does, raises}
 use Rattle.domain_core.specs.Keeping.{KeptDomain}
 use Rattle.domain_core.proofs.Composing.{makes_after, makes_as}
 use Rattle.domain_core.proofs.Scopes.{cancels_late, cancels_live, live_there}

@@ -1,6 +1,6 @@
 use Rattle.std.proofs.Common.{sym, subst, Option}
 use Rattle.eio_value.specs.declared.plain.Plain.{Plain}
-use Rattle.machine_model.specs.GroupMoves.{cancels_if}
+use Rattle.spec_machine.specs.GroupMoves.{cancels_if}
 use Rattle.domain_core.specs.Mirrors.{Mirrors}
 use Rattle.domain_core.proofs.domain.Domain.cancel_if.Goals as goal
 

@@ -1,8 +1,8 @@
 use Rattle.std.proofs.lemmas.Result.{on_ok_weaker}
-use Rattle.machine_model.specs.Moves.{own_call}
-use Rattle.machine_model.specs.Steps.{does}
+use Rattle.spec_machine.specs.Moves.{own_call}
+use Rattle.spec_machine.specs.Steps.{does}
 use Rattle.script_forms.specs.Flat.{nodes_of}
-use Rattle.trace_out.specs.declared.line.Did.TheVariants as did
+use Rattle.trace_lines.specs.declared.line.Did.TheVariants as did
 use Rattle.domain_core.proofs.Composing.{makes_off, makes_on}
 use Rattle.domain_core.proofs.domain.Domain.check.Goals as goal
 

@@ -1,12 +1,12 @@
 use Rattle.std.proofs.Common.{◌≡◌, ◌∙◌, ◌⊎◌, inl, inr, false, sym, subst}
 use Rattle.std.proofs.lemmas.Result.{on_ok_weaker}
 use Rattle.script_forms.specs.Flat.{nodes_of}
-use Rattle.step_model.specs.Asks as asks
-use Rattle.row_model.specs.Contexts.{is_full}
-use Rattle.row_model.specs.Switches.{runs_handler, switch_at}
-use Rattle.machine_model.specs.Moves.{own_call}
-use Rattle.machine_model.specs.Steps.{halts}
-use Rattle.machine_model.specs.SwitchMoves.{fails_with}
+use Rattle.spec_fiber.specs.Asks as asks
+use Rattle.spec_parts.specs.Contexts.{is_full}
+use Rattle.spec_parts.specs.Switches.{runs_handler, switch_at}
+use Rattle.spec_machine.specs.Moves.{own_call}
+use Rattle.spec_machine.specs.Steps.{halts}
+use Rattle.spec_machine.specs.SwitchMoves.{fails_with}
 use Rattle.domain_core.specs.contracts.domain.Domain.{the_view}
 use Rattle.domain_core.specs.Answering.{MakesUnder, closes_on}
 use Rattle.domain_core.specs.Keeping.{KeptDomain}

@@ -3,15 +3,15 @@ use Rattle.std.specs.Prelude.{Contains, None}
 use Rattle.std.proofs.lemmas.Result.{on_ok_weaker}
 use Rattle.eio_value.specs.declared.plain.Plain.TheVariants.{Exit}
 use Rattle.eio_value.specs.declared.raised.Outcome.TheVariants as outcome
-use Rattle.trace_out.specs.declared.line.Did.TheVariants as did
+use Rattle.trace_lines.specs.declared.line.Did.TheVariants as did
 use Rattle.script_forms.specs.Flat.{nodes_of}
-use Rattle.step_model.specs.Asks as asks
-use Rattle.row_model.specs.Switches as switches
-use Rattle.row_model.specs.Switches.{switch_at}
-use Rattle.domain_kinds.specs.KindedStates.{handlers_of}
-use Rattle.machine_model.specs.ContextMoves.{leaves}
-use Rattle.machine_model.specs.Domain.{ForOthers}
-use Rattle.machine_model.specs.Steps.{answers, cancels, waits}
+use Rattle.spec_fiber.specs.Asks as asks
+use Rattle.spec_parts.specs.Switches as switches
+use Rattle.spec_parts.specs.Switches.{switch_at}
+use Rattle.law_domain.specs.Kinded.KindedStates.{handlers_of}
+use Rattle.spec_machine.specs.ContextMoves.{leaves}
+use Rattle.spec_machine.specs.Domain.{ForOthers}
+use Rattle.spec_machine.specs.Steps.{answers, cancels, waits}
 use Rattle.domain_core.specs.contracts.domain.Domain.{the_view}
 use Rattle.domain_core.specs.Answering.{MakesUnder, closes_on}
 use Rattle.domain_core.specs.Keeping.{KeptDomain}

@@ -1,6 +1,6 @@
 use Rattle.std.proofs.Common.{sym, subst}
-use Rattle.row_model.specs.Switches.{switch_at}
-use Rattle.machine_model.specs.SwitchMoves.{given_up}
+use Rattle.spec_parts.specs.Switches.{switch_at}
+use Rattle.spec_machine.specs.SwitchMoves.{given_up}
 use Rattle.switch_core.specs.Attaching.{IsAttached}
 use Rattle.domain_core.specs.Answering.{BecomesUnder}
 use Rattle.domain_core.specs.Keeping.{KeptDomain}

@@ -1,12 +1,12 @@
 use Rattle.std.proofs.Common.{◌≡◌, ◌∙◌, ap, sym, subst}
 use Rattle.std.proofs.lemmas.Option.{same_Some}
-use Rattle.trace_out.specs.declared.line.Did.TheVariants as did
-use Rattle.trace_out.specs.declared.line.Said2.{Said2}
+use Rattle.trace_lines.specs.declared.line.Did.TheVariants as did
+use Rattle.trace_lines.specs.declared.line.Said2.{Said2}
 use Rattle.script_forms.specs.Flat.{nodes_of}
-use Rattle.step_model.specs.Asks as asks
-use Rattle.machine_model.specs.EndMoves.{ends}
-use Rattle.machine_model.specs.Moves.{own_call}
-use Rattle.machine_model.specs.Steps.{reply_of}
+use Rattle.spec_fiber.specs.Asks as asks
+use Rattle.spec_machine.specs.EndMoves.{ends}
+use Rattle.spec_machine.specs.Moves.{own_call}
+use Rattle.spec_machine.specs.Steps.{reply_of}
 use Rattle.domain_core.specs.contracts.domain.Domain.{the_view}
 use Rattle.domain_core.specs.Answering.{BecomesUnder, MakesUnder}
 use Rattle.domain_core.specs.Conditions.{IsAwake, MayEnd}

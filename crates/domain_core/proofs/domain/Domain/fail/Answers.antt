@@ -4,14 +4,14 @@ use Rattle.eio_value.specs.declared.plain.Member.{Member}
 use Rattle.eio_value.specs.declared.plain.Misuse.TheVariants.{SwitchFinished}
 use Rattle.eio_value.specs.declared.plain.Plain.TheVariants.{Failure, Invalid}
 use Rattle.eio_value.specs.declared.raised.Raised.TheVariants as raised
-use Rattle.row_model.specs.Switches.{switch_at}
+use Rattle.spec_parts.specs.Switches.{switch_at}
 use Rattle.script_forms.specs.Flat.{nodes_of}
 use Rattle.script_forms.specs.declared.node.Node.{Node}
-use Rattle.trace_out.specs.declared.line.Did.TheVariants as did
-use Rattle.machine_model.specs.Domain.{DomainState}
-use Rattle.machine_model.specs.Moves.{own_call}
-use Rattle.machine_model.specs.Steps.{Step, does, new_raise, raises}
-use Rattle.machine_model.specs.SwitchMoves.{fails}
+use Rattle.trace_lines.specs.declared.line.Did.TheVariants as did
+use Rattle.spec_machine.specs.Domain.{DomainState}
+use Rattle.spec_machine.specs.Moves.{own_call}
+use Rattle.spec_machine.specs.Steps.{Step, does, new_raise, raises}
+use Rattle.spec_machine.specs.SwitchMoves.{fails}
 use Rattle.domain_core.specs.Keeping.{KeptDomain}
 use Rattle.domain_core.proofs.Composing.{makes_after, makes_after_raise, makes_as}
 use Rattle.domain_core.proofs.Scopes.{fails_late, fails_now, finished_there}

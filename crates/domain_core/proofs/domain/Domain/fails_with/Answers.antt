@@ -1,5 +1,5 @@
 use Rattle.std.proofs.Common.{refl, sym, subst}
-use Rattle.machine_model.specs.SwitchMoves.{fails_with}
+use Rattle.spec_machine.specs.SwitchMoves.{fails_with}
 use Rattle.domain_core.specs.Mirrors.{Mirrors}
 use Rattle.domain_core.proofs.Scoping.{leaves_all}
 use Rattle.domain_core.proofs.domain.Domain.fails_with.Goals as goal

@@ -3,8 +3,8 @@ use Rattle.std.specs.Prelude.{count_by, is_some}
 use Rattle.script_forms.specs.Flat.{nodes_of}
 use Rattle.script_code.specs.Standing.{block_at}
 use Rattle.script_forms.specs.declared.node.Node.{Node}
-use Rattle.trace_out.specs.declared.line.Did.{Did}
-use Rattle.trace_out.specs.declared.line.Said2.TheVariants as said
+use Rattle.trace_lines.specs.declared.line.Did.{Did}
+use Rattle.trace_lines.specs.declared.line.Said2.TheVariants as said
 use Rattle.domain_core.specs.declared.told.Told.{Told}
 use Rattle.domain_core.specs.Keeping.{KeptDomain}
 use Rattle.domain_core.proofs.Forking.{makes_refused, makes_full, makes_forked}

@@ -1,8 +1,8 @@
 use Rattle.std.proofs.Common.{◌<◌, ◌≤◌, ◌+◌, ◌++◌, ◌∷◌, [], length, ap, ◌∙◌, sym, subst, refl, arith}
 use Rattle.std.specs.Prelude.{count_by, is_some}
-use Rattle.row_model.specs.Groups.{GroupKind, gathered}
+use Rattle.spec_parts.specs.Groups.{GroupKind, gathered}
 use Rattle.script_forms.specs.Calls.{group_of}
-use Rattle.machine_model.specs.GroupMoves as groups
+use Rattle.spec_machine.specs.GroupMoves as groups
 use Rattle.domain_core.specs.Answering.{SameCounts}
 use Rattle.domain_core.specs.Conditions.{IsAwake}
 use Rattle.domain_core.specs.Keeping.{KeptDomain}

@@ -1,7 +1,7 @@
 use Rattle.std.proofs.Common.{◌≡◌, ◌⊎◌, inl, inr, false, refl, sym, subst}
 use Rattle.eio_value.specs.declared.raised.Outcome.{Outcome}
-use Rattle.machine_model.specs.Domain.{DomainState}
-use Rattle.machine_model.specs.SwitchMoves.{given_up}
+use Rattle.spec_machine.specs.Domain.{DomainState}
+use Rattle.spec_machine.specs.SwitchMoves.{given_up}
 use Rattle.domain_core.specs.Mirrors.{Mirrors}
 use Rattle.domain_core.proofs.Ends.{is_cancelled, gives_up, none_cancelled}
 use Rattle.domain_core.proofs.Scoping.{leaves_all}

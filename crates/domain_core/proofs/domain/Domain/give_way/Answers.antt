@@ -1,8 +1,8 @@
-use Rattle.machine_model.specs.Domain.{LooksUp, to_back}
-use Rattle.machine_model.specs.Moves.{own_call}
+use Rattle.spec_machine.specs.Domain.{LooksUp, to_back}
+use Rattle.spec_machine.specs.Moves.{own_call}
 use Rattle.script_forms.specs.Flat.{nodes_of}
-use Rattle.trace_out.specs.declared.line.Did.TheVariants as did
-use Rattle.trace_out.specs.declared.line.Said2.TheVariants as said
+use Rattle.trace_lines.specs.declared.line.Did.TheVariants as did
+use Rattle.trace_lines.specs.declared.line.Said2.TheVariants as said
 use Rattle.domain_core.proofs.Composing.{makes_told}
 use Rattle.domain_core.proofs.domain.Domain.give_way.Goals as goal
 

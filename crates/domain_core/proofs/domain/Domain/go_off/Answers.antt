@@ -1,5 +1,5 @@
-use Rattle.machine_model.specs.Domain.{FindsOff, to_back}
-use Rattle.trace_out.specs.declared.line.Said2.TheVariants as said
+use Rattle.spec_machine.specs.Domain.{FindsOff, to_back}
+use Rattle.trace_lines.specs.declared.line.Said2.TheVariants as said
 use Rattle.domain_core.proofs.Composing.{makes_told}
 use Rattle.domain_core.proofs.domain.Domain.go_off.Goals as goal
 

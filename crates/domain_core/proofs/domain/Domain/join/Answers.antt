@@ -1,13 +1,13 @@
 use Rattle.std.proofs.Common.{◌∙◌, ◌<◌, ap, List, length, ℕ, sym, subst}
 use Rattle.std.proofs.lemmas.Result.{on_ok_weaker}
 use Rattle.eio_value.specs.declared.raised.Outcome.TheVariants as outcome
-use Rattle.trace_out.specs.declared.line.Did.TheVariants as did
+use Rattle.trace_lines.specs.declared.line.Did.TheVariants as did
 use Rattle.script_forms.specs.Flat.{nodes_of}
-use Rattle.row_model.specs.Groups as groups
-use Rattle.row_model.specs.Groups.{group_at}
-use Rattle.machine_model.specs.ContextMoves.{leaves}
-use Rattle.machine_model.specs.GroupMoves.{own_ended}
-use Rattle.machine_model.specs.Steps.{answers, raises_again}
+use Rattle.spec_parts.specs.Groups as groups
+use Rattle.spec_parts.specs.Groups.{group_at}
+use Rattle.spec_machine.specs.ContextMoves.{leaves}
+use Rattle.spec_machine.specs.GroupMoves.{own_ended}
+use Rattle.spec_machine.specs.Steps.{answers, raises_again}
 use Rattle.domain_core.specs.contracts.domain.Domain.{the_view}
 use Rattle.domain_core.specs.Answering.{BecomesUnder, Makes}
 use Rattle.domain_core.specs.Conditions.{LeavesGroups}

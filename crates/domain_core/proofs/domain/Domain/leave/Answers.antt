@@ -7,12 +7,12 @@ use Rattle.eio_value.specs.declared.value.Value.{Value}
 use Rattle.eio_value.specs.declared.value.Value.TheVariants as value
 use Rattle.script_forms.specs.Flat.{nodes_of}
 use Rattle.script_forms.specs.declared.node.Node.{Node}
-use Rattle.trace_out.specs.declared.line.Did.TheVariants as did
-use Rattle.trace_out.specs.declared.line.Said2.TheVariants as said
-use Rattle.machine_model.specs.ContextMoves.{leaves, left_with}
-use Rattle.machine_model.specs.Domain.{DomainState, GoesOn, to_head}
-use Rattle.machine_model.specs.Moves.{own_call}
-use Rattle.machine_model.specs.Steps.{raises, raises_again, told}
+use Rattle.trace_lines.specs.declared.line.Did.TheVariants as did
+use Rattle.trace_lines.specs.declared.line.Said2.TheVariants as said
+use Rattle.spec_machine.specs.ContextMoves.{leaves, left_with}
+use Rattle.spec_machine.specs.Domain.{DomainState, GoesOn, to_head}
+use Rattle.spec_machine.specs.Moves.{own_call}
+use Rattle.spec_machine.specs.Steps.{raises, raises_again, told}
 use Rattle.domain_core.proofs.Composing.{makes_after, makes_as, makes_told}
 use Rattle.domain_core.proofs.Scopes.{leaves_late, leaves_with_err, leaves_with_ok}
 use Rattle.domain_core.proofs.domain.Domain.leave.Goals as goal

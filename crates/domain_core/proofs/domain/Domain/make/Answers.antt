@@ -1,9 +1,9 @@
 use Rattle.std.proofs.Common.{◌∙◌, ap, sym, subst, length}
-use Rattle.row_model.specs.Switches.{switch_at}
+use Rattle.spec_parts.specs.Switches.{switch_at}
 use Rattle.switch_core.specs.Attaching.{IsAttached}
 use Rattle.domain_core.specs.Conditions.{IsAttachedToNone, IsAwake}
 use Rattle.domain_core.specs.Mirrors.{Mirrors}
-use Rattle.step_model.specs.Replies.{begun}
+use Rattle.spec_fiber.specs.Replies.{begun}
 use Rattle.script_code.specs.Standing.{block_at}
 use Rattle.domain_core.proofs.Making.{older_awake, new_awake, forks_mirrors}
 use Rattle.domain_core.proofs.domain.Domain.make.Goals as goal

@@ -1,6 +1,6 @@
 use Rattle.std.proofs.Common.{◌∙◌, ap, sym, subst, refl}
-use Rattle.machine_model.specs.Domain.{OfGroup}
-use Rattle.step_model.specs.Replies.{begun}
+use Rattle.spec_machine.specs.Domain.{OfGroup}
+use Rattle.spec_fiber.specs.Replies.{begun}
 use Rattle.script_code.specs.Standing.{block_at}
 use Rattle.domain_core.specs.Mirrors.{Mirrors}
 use Rattle.domain_core.proofs.Making.{made_mirrors}

@@ -1,16 +1,16 @@
 use Rattle.std.proofs.Common.{◌≡◌, ℕ, true, false, List, ◌∙◌, sym, subst}
 use Rattle.fiber_step.specs.declared.ask.Ask.TheVariants as kept_ask
 use Rattle.fiber_step.specs.Standing.{ask_of}
-use Rattle.row_model.specs.Switches.{switch_at}
+use Rattle.spec_parts.specs.Switches.{switch_at}
 use Rattle.script_forms.specs.Flat.{nodes_of}
 use Rattle.script_forms.specs.declared.node.Node.{Node}
-use Rattle.step_model.specs.Asks.{Ask}
-use Rattle.trace_out.specs.declared.line.Did.TheVariants as did
-use Rattle.trace_out.specs.declared.line.Said2.TheVariants as said
-use Rattle.machine_model.specs.ContextMoves.{protected_of}
-use Rattle.machine_model.specs.Domain.{DomainState}
-use Rattle.machine_model.specs.Moves.{own_call}
-use Rattle.machine_model.specs.Steps.{does, halts, in_new}
+use Rattle.spec_fiber.specs.Asks.{Ask}
+use Rattle.trace_lines.specs.declared.line.Did.TheVariants as did
+use Rattle.trace_lines.specs.declared.line.Said2.TheVariants as said
+use Rattle.spec_machine.specs.ContextMoves.{protected_of}
+use Rattle.spec_machine.specs.Domain.{DomainState}
+use Rattle.spec_machine.specs.Moves.{own_call}
+use Rattle.spec_machine.specs.Steps.{does, halts, in_new}
 use Rattle.domain_core.specs.Answering.{MakesUnder, registers}
 use Rattle.domain_core.specs.Keeping.{KeptDomain}
 use Rattle.domain_core.proofs.Composing.{makes_after, makes_as, makes_entering, makes_full, makes_in_new}

@@ -4,17 +4,17 @@ use Rattle.eio_value.specs.declared.value.Value.{Value}
 use Rattle.eio_value.specs.declared.value.Value.TheVariants as value
 use Rattle.fiber_step.specs.declared.ask.Ask.TheVariants as kept_ask
 use Rattle.fiber_step.specs.Standing.{ask_of}
-use Rattle.row_model.specs.Switches.{Switch}
+use Rattle.spec_parts.specs.Switches.{Switch}
 use Rattle.script_forms.specs.Flat.{nodes_of}
 use Rattle.script_forms.specs.declared.node.Node.{Node}
-use Rattle.step_model.specs.Asks.{Ask}
-use Rattle.trace_out.specs.declared.line.Did.TheVariants as did
-use Rattle.trace_out.specs.declared.line.Said2.TheVariants as said
-use Rattle.machine_model.specs.ContextMoves.{before_block, enters_context, sub_of}
-use Rattle.machine_model.specs.Domain.{DomainState}
-use Rattle.machine_model.specs.Moves.{own_call}
-use Rattle.machine_model.specs.Steps.{Step, halts, in_new}
-use Rattle.machine_model.specs.SwitchMoves.{opens}
+use Rattle.spec_fiber.specs.Asks.{Ask}
+use Rattle.trace_lines.specs.declared.line.Did.TheVariants as did
+use Rattle.trace_lines.specs.declared.line.Said2.TheVariants as said
+use Rattle.spec_machine.specs.ContextMoves.{before_block, enters_context, sub_of}
+use Rattle.spec_machine.specs.Domain.{DomainState}
+use Rattle.spec_machine.specs.Moves.{own_call}
+use Rattle.spec_machine.specs.Steps.{Step, halts, in_new}
+use Rattle.spec_machine.specs.SwitchMoves.{opens}
 use Rattle.domain_core.specs.Answering.{MakesUnder}
 use Rattle.domain_core.specs.Keeping.{KeptDomain}
 use Rattle.domain_core.proofs.Composing.{makes_after, makes_as, makes_entering, makes_full, makes_in_new, makes_off, makes_on}

@@ -1,6 +1,6 @@
 use Rattle.std.proofs.Common.{sym, subst, Option}
 use Rattle.eio_value.specs.declared.raised.Outcome.{Outcome}
-use Rattle.machine_model.specs.GroupMoves.{own_ended}
+use Rattle.spec_machine.specs.GroupMoves.{own_ended}
 use Rattle.domain_core.specs.Mirrors.{Mirrors}
 use Rattle.domain_core.proofs.domain.Domain.own_ends.Goals as goal
 

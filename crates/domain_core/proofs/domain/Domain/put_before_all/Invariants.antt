@@ -1,5 +1,5 @@
 use Rattle.std.proofs.Common.{◌≡◌, ◌+◌, ◌≤◌, ◌++◌, ℕ}
-use Rattle.machine_model.specs.GroupMoves.{numbers_from}
+use Rattle.spec_machine.specs.GroupMoves.{numbers_from}
 use Rattle.domain_core.proofs.domain.Domain.put_before_all.Given as goal
 
 -- so many were put before all others that this one is the first of them

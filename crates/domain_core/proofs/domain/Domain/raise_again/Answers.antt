@@ -1,6 +1,6 @@
 use Rattle.eio_value.specs.declared.raised.Outcome.TheVariants as outcome
-use Rattle.machine_model.specs.Domain.{GoesOn, to_head}
-use Rattle.trace_out.specs.declared.line.Said2.TheVariants as said
+use Rattle.spec_machine.specs.Domain.{GoesOn, to_head}
+use Rattle.trace_lines.specs.declared.line.Said2.TheVariants as said
 use Rattle.domain_core.proofs.Composing.{makes_told}
 use Rattle.domain_core.proofs.domain.Domain.raise_again.Goals as goal
 

@@ -1,6 +1,6 @@
 use Rattle.std.proofs.lemmas.Result.{on_ok_weaker}
 use Rattle.eio_value.specs.declared.raised.Raised.TheVariants.{Cancelled}
-use Rattle.machine_model.specs.Steps.{raises_again}
+use Rattle.spec_machine.specs.Steps.{raises_again}
 use Rattle.domain_core.proofs.Composing.{makes_after_raise}
 use Rattle.domain_core.proofs.domain.Domain.raise_cancelled.Goals as goal
 

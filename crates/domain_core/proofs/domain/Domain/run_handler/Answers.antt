@@ -1,26 +1,26 @@
 use Rattle.std.proofs.Common.{◌≡◌, ◌∙◌, ap, sym, subst, None, List, Option, ℕ}
 use Rattle.std.specs.Prelude.{IsSome}
 use Rattle.eio_value.specs.declared.value.Value.{Value}
-use Rattle.trace_out.specs.declared.line.Did.TheVariants as did
-use Rattle.trace_out.specs.declared.line.Said2.TheVariants as said
-use Rattle.script_model.specs.Scripts.{Script}
-use Rattle.script_laws.specs.Soundness.{IsSound}
+use Rattle.trace_lines.specs.declared.line.Did.TheVariants as did
+use Rattle.trace_lines.specs.declared.line.Said2.TheVariants as said
+use Rattle.spec_script.specs.Scripts.{Script}
+use Rattle.law_script.specs.Scripts.Soundness.{IsSound}
 use Rattle.script_forms.specs.Flat.{nodes_of}
 use Rattle.script_code.specs.Numbered.{HasNumbers}
 use Rattle.script_forms.specs.declared.node.Node.{Node}
-use Rattle.step_model.specs.Numbered.{block_numbered}
-use Rattle.step_model.specs.Replies.{handled}
-use Rattle.step_model.specs.Asks as asks
-use Rattle.row_model.specs.Switches.{Handler}
-use Rattle.block_laws.specs.Beginnings.{BeginsBlock}
-use Rattle.block_laws.proofs.Beginning.{blocks_by_node}
+use Rattle.spec_fiber.specs.Numbered.{block_numbered}
+use Rattle.spec_fiber.specs.Replies.{handled}
+use Rattle.spec_fiber.specs.Asks as asks
+use Rattle.spec_parts.specs.Switches.{Handler}
+use Rattle.fiber_step.specs.Blocks.Beginnings.{BeginsBlock}
+use Rattle.fiber_step.proofs.Blocks.Beginning.{blocks_by_node}
 use Rattle.fiber_step.specs.declared.ask.Ask.{Ask}
 use Rattle.fiber_step.specs.declared.ask.Ask.TheVariants as ask
 use Rattle.fiber_step.specs.Having.{HasStatements}
-use Rattle.machine_model.specs.ContextMoves.{enters_context, protected_of}
-use Rattle.machine_model.specs.Domain.{Fiber, fiber_at}
-use Rattle.machine_model.specs.Steps.{halts}
-use Rattle.machine_model.specs.SwitchMoves.{runs}
+use Rattle.spec_machine.specs.ContextMoves.{enters_context, protected_of}
+use Rattle.spec_machine.specs.Domain.{Fiber, fiber_at}
+use Rattle.spec_machine.specs.Steps.{halts}
+use Rattle.spec_machine.specs.SwitchMoves.{runs}
 use Rattle.domain_core.specs.contracts.domain.Domain.{the_view}
 use Rattle.domain_core.specs.Answering.{MakesUnder}
 use Rattle.domain_core.specs.Conditions.{IsAwake}

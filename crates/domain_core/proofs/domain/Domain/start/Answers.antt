@@ -1,9 +1,9 @@
 use Rattle.std.proofs.Common.{◌≡◌, ◌∙◌, ap, ℕ, [], ◌∷◌, Some, arith}
 use Rattle.std.proofs.lemmas.Option.{same_Some}
-use Rattle.row_model.specs.Contexts.{root}
-use Rattle.row_model.specs.ContextCalls.{Contexts, Root, called}
-use Rattle.row_model.specs.ReadyList.{push_back}
-use Rattle.machine_model.specs.Domain.{OfBody}
+use Rattle.spec_parts.specs.Contexts.{root}
+use Rattle.spec_parts.specs.ContextCalls.{Contexts, Root, called}
+use Rattle.spec_parts.specs.ReadyList.{push_back}
+use Rattle.spec_machine.specs.Domain.{OfBody}
 use Rattle.domain_core.specs.Keeping.{new_fiber}
 use Rattle.domain_core.proofs.Starting.{beginning_is, starts}
 use Rattle.domain_core.proofs.domain.Domain.start.Goals as goal

@@ -4,8 +4,8 @@ use Rattle.std.proofs.lemmas.Option.{same_Some}
 use Rattle.cancel_tree.specs.Waits.{waits}
 use Rattle.eio_value.specs.declared.plain.Plain.{Plain}
 use Rattle.eio_value.specs.declared.plain.Plain.TheVariants.{Exit}
-use Rattle.machine_model.specs.Steps.{member}
-use Rattle.row_model.specs.Contexts.{off}
+use Rattle.spec_machine.specs.Steps.{member}
+use Rattle.spec_parts.specs.Contexts.{off}
 use Rattle.domain_core.specs.Conditions.{AwaitsCancel, RunsInLive}
 use Rattle.domain_core.specs.Keeping.{KeptFiber, KeptDomain, kept_at}
 use Rattle.domain_core.proofs.Striking.{awaits, loses, wins}

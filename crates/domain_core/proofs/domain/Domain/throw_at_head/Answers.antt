@@ -1,6 +1,6 @@
 use Rattle.std.proofs.Common.{ap}
 use Rattle.eio_value.specs.declared.raised.Outcome.TheVariants as outcome
-use Rattle.machine_model.specs.Domain as model
+use Rattle.spec_machine.specs.Domain as model
 use Rattle.domain_core.proofs.Awake.{becomes_at_head}
 use Rattle.domain_core.proofs.domain.Domain.throw_at_head.Goals as goal
 

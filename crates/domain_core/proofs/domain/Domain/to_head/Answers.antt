@@ -1,5 +1,5 @@
 use Rattle.std.proofs.Common.{ap, refl}
-use Rattle.machine_model.specs.Domain as model
+use Rattle.spec_machine.specs.Domain as model
 use Rattle.domain_core.specs.Keyed.{next_of}
 use Rattle.domain_core.proofs.Awake.{becomes_at_head, stays_awake}
 use Rattle.domain_core.proofs.domain.Domain.to_head.Goals as goal

@@ -1,4 +1,4 @@
-use Rattle.machine_model.specs.Moves.{own_call}
+use Rattle.spec_machine.specs.Moves.{own_call}
 use Rattle.script_forms.specs.Flat.{nodes_of}
 use Rattle.domain_core.proofs.domain.Domain.trace.Goals as goal
 

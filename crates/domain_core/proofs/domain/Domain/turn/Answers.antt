@@ -1,8 +1,8 @@
 use Rattle.std.proofs.Common.{◌≡◌, ◌∙◌, ap, sym, subst, refl, ℕ, ◌<◌, false, List, [], ◌∷◌, Option, None}
 use Rattle.eio_value.specs.declared.message.Message.{Message}
-use Rattle.machine_model.specs.Domain.{Duty}
-use Rattle.machine_model.specs.Steps.{strike_by}
-use Rattle.row_model.specs.ReadyList.{pop}
+use Rattle.spec_machine.specs.Domain.{Duty}
+use Rattle.spec_machine.specs.Steps.{strike_by}
+use Rattle.spec_parts.specs.ReadyList.{pop}
 use Rattle.script_forms.specs.Flat.{nodes_of}
 use Rattle.domain_core.specs.Answering.{SameCounts}
 use Rattle.domain_core.specs.Keeping.{KeptDomain}

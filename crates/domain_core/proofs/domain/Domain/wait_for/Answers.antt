@@ -1,5 +1,5 @@
-use Rattle.machine_model.specs.Domain.{ForOthers, Parked, stands}
-use Rattle.trace_out.specs.declared.line.Said2.TheVariants as said
+use Rattle.spec_machine.specs.Domain.{ForOthers, Parked, stands}
+use Rattle.trace_lines.specs.declared.line.Said2.TheVariants as said
 use Rattle.domain_core.specs.Keyed.{call_of}
 use Rattle.domain_core.proofs.Awake.{becomes_parked}
 use Rattle.domain_core.proofs.Composing.{makes_told}

@@ -1,8 +1,8 @@
 use Rattle.std.proofs.Common.{◌≡◌, ◌∙◌, inl, inr, ℕ, List, [], ◌∷◌, length, Option, Some, ap, refl, sym, subst}
 use Rattle.std.specs.Option.{option_map}
 use Rattle.std.proofs.lemmas.List.{length-append}
-use Rattle.machine_model.specs.Domain as model
-use Rattle.machine_model.specs.SwitchMoves.{woken_if}
+use Rattle.spec_machine.specs.Domain as model
+use Rattle.spec_machine.specs.SwitchMoves.{woken_if}
 use Rattle.domain_core.specs.Answering.{Becomes}
 use Rattle.domain_core.specs.Keeping.{KeptFiber, kept_at}
 use Rattle.domain_core.specs.Keyed.{standing_of, call_of}

@@ -1,9 +1,9 @@
 use Rattle.std.proofs.Common.{◌∙◌, ap, List, [], ◌∷◌, ◌++◌, length, Option, Some}
 use Rattle.script_forms.specs.Flat.{nodes_of}
 use Rattle.script_code.specs.Standing.{block_at}
-use Rattle.script_model.specs.Syntax.{Block}
-use Rattle.step_model.specs.Replies.{begun}
-use Rattle.machine_model.specs.Domain.{OfBody}
+use Rattle.spec_script.specs.Syntax.{Block}
+use Rattle.spec_fiber.specs.Replies.{begun}
+use Rattle.spec_machine.specs.Domain.{OfBody}
 use Rattle.domain_core.specs.Keeping.{KeptFiber, new_fiber}
 use Rattle.domain_core.proofs.Starting.{body_block}
 use Rattle.domain_core.proofs.fibers.Fibers.of_body.Goals as goal

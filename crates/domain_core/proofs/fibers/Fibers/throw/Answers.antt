@@ -4,7 +4,7 @@ use Rattle.std.proofs.lemmas.Option.{same_Some}
 use Rattle.slab.specs.Slab.{Slab, get}
 use Rattle.eio_value.specs.declared.raised.Outcome.TheVariants as outcome
 use Rattle.eio_value.specs.declared.raised.Raised.{Raised}
-use Rattle.machine_model.specs.Domain as model
+use Rattle.spec_machine.specs.Domain as model
 use Rattle.domain_core.specs.declared.fiber.Fiber.{Fiber}
 use Rattle.domain_core.specs.declared.standing.Standing.TheVariants as standing
 use Rattle.domain_core.specs.Keeping.{kept_at, changed_at}

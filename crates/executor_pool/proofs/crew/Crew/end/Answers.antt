@@ -1,9 +1,9 @@
 use Rattle.std.proofs.Common.{true, false, ◌≡◌, ◌==◌, ℕ, List, map, get_or, sym, refl, ap, ◌∙◌, Some, None}
 use Rattle.std.specs.Prelude.{find}
 use Rattle.std.specs.List.{position, remove}
-use Rattle.row_model.specs.Data.{Running}
-use Rattle.row_model.specs.Executors.{has_number, relieved}
-use Rattle.row_model.specs.Row.{but_first}
+use Rattle.spec_parts.specs.Data.{Running}
+use Rattle.spec_parts.specs.Executors.{has_number, relieved}
+use Rattle.spec_parts.specs.Row.{but_first}
 use Rattle.wait_list.proofs.Picking.{Picked, picked, nowhere}
 use Rattle.executor_pool.specs.declared.crew.Running.{Running as Kept}
 use Rattle.executor_pool.specs.Kept.{running_of, worker_of}

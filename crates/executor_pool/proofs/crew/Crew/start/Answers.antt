@@ -4,9 +4,9 @@ use Rattle.std.specs.List.{position, remove}
 use Rattle.std.specs.Vec.{vec_capacity}
 use Rattle.std.proofs.lemmas.Grind.{common_steps}
 use Rattle.std.proofs.lemmas.List.{map-append, length-map}
-use Rattle.row_model.specs.Data.{Running, Worker}
-use Rattle.row_model.specs.Executors.{fits}
-use Rattle.row_model.specs.Row.{but_first}
+use Rattle.spec_parts.specs.Data.{Running, Worker}
+use Rattle.spec_parts.specs.Executors.{fits}
+use Rattle.spec_parts.specs.Row.{but_first}
 use Rattle.wait_list.proofs.Picking.{Picked, picked, nowhere}
 use Rattle.executor_pool.specs.declared.crew.Running.{Running as KeptRunning}
 use Rattle.executor_pool.specs.declared.crew.Worker.{Worker as Kept}

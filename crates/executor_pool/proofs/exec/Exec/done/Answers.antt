@@ -1,8 +1,8 @@
 use Rattle.std.proofs.Common.{◌≡◌, true≢false, List, map, Some, None, sym, ap, ◌∙◌}
 use Rattle.std.specs.Prelude.{find}
-use Rattle.row_model.specs.Data.{Running, Work}
-use Rattle.row_model.specs.Executors.{has_number as job_has, without_running}
-use Rattle.row_model.specs.Row.{Queued, but_first}
+use Rattle.spec_parts.specs.Data.{Running, Work}
+use Rattle.spec_parts.specs.Executors.{has_number as job_has, without_running}
+use Rattle.spec_parts.specs.Row.{Queued, but_first}
 use Rattle.wait_list.specs.Lists.{WaitingList}
 use Rattle.wait_list.specs.Standing.{queued_of}
 use Rattle.wait_list.specs.Waits.{has_number}

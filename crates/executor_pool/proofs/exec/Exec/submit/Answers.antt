@@ -1,6 +1,6 @@
 use Rattle.std.proofs.Common.{◌≡◌, ◌+◌, List, [], ◌∷◌, ◌++◌, length, map, arith, refl, sym, ap, ◌∙◌, length-append}
 use Rattle.std.proofs.lemmas.List.{map-append, length-map}
-use Rattle.row_model.specs.Data.{Submitted}
+use Rattle.spec_parts.specs.Data.{Submitted}
 use Rattle.wait_list.specs.Lists.{WaitingList}
 use Rattle.executor_pool.specs.declared.exec.Submitted.{Submitted as Kept}
 use Rattle.executor_pool.specs.Kept.{submitted_of}

@@ -2,7 +2,7 @@ use Rattle.std.proofs.Common.{◌+◌, ◌∙◌, ap}
 use Rattle.script_forms.specs.Flat.{nodes_of}
 use Rattle.script_code.specs.Standing.{expression_at}
 use Rattle.eio_value.specs.declared.plain.Plain.TheVariants.{Invalid}
-use Rattle.step_model.specs.Evaluation.{value_of}
+use Rattle.spec_fiber.specs.Evaluation.{value_of}
 use Rattle.fiber_step.specs.Throwing.{shared_by}
 use Rattle.fiber_step.proofs.Results.{after_ok}
 use Rattle.fiber_step.proofs.Stated.{give_turn, give_raises}

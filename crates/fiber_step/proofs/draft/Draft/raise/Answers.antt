@@ -1,5 +1,5 @@
 use Rattle.std.proofs.Common.{rules, ◌≡◌, ◌+◌, sym, subst}
-use Rattle.step_model.specs.Silent.{raises}
+use Rattle.spec_fiber.specs.Silent.{raises}
 use Rattle.fiber_step.specs.Throwing.{shared_by, IsStatedWith}
 use Rattle.fiber_step.proofs.Results.{after_ok}
 use Rattle.fiber_step.proofs.Throws.{raised_turn}

@@ -2,11 +2,11 @@ use Rattle.std.proofs.Common.{◌∙◌, ℕ, ap, false, true, length}
 use Rattle.eio_value.specs.declared.value.Value.TheVariants as value
 use Rattle.script_forms.specs.Flat.{nodes_of}
 use Rattle.script_code.specs.Standing.{block_at}
-use Rattle.script_model.specs.Syntax.{Block}
-use Rattle.step_model.specs.Replies as model
-use Rattle.step_model.specs.Replies.{into, into_with}
-use Rattle.step_model.specs.Silent.{blocks_of}
-use Rattle.step_model.specs.Work as work
+use Rattle.spec_script.specs.Syntax.{Block}
+use Rattle.spec_fiber.specs.Replies as model
+use Rattle.spec_fiber.specs.Replies.{into, into_with}
+use Rattle.spec_fiber.specs.Silent.{blocks_of}
+use Rattle.spec_fiber.specs.Work as work
 use Rattle.fiber_step.specs.Kept.{Kept}
 use Rattle.fiber_step.specs.Standing.{branches_at, mark_work, works_of}
 use Rattle.fiber_step.specs.Turning.{naming}

@@ -1,6 +1,6 @@
 use Rattle.std.proofs.Common.{List, ap, ◌∙◌, rules, tests}
 use Rattle.std.specs.Prelude.{not, bytes_eq}
-use Rattle.row_model.specs.Directories.{Entry, Directory, without_entry}
+use Rattle.spec_parts.specs.Directories.{Entry, Directory, without_entry}
 use Rattle.path_cap.proofs.Taking.{retained}
 use Rattle.path_cap.proofs.directory.Directory.take_out.Goals as goal
 

@@ -3,7 +3,7 @@ use Rattle.std.proofs.lemmas.Result.{on_ok_weaker}
 use Rattle.std.proofs.lemmas.Grind.{common_steps}
 use Rattle.eio_value.specs.Directory.{entry_count}
 use Rattle.eio_value.specs.EntriesInside.{directory_of}
-use Rattle.row_model.specs.Directories.{Tree, placed}
+use Rattle.spec_parts.specs.Directories.{Tree, placed}
 use Rattle.path_cap.proofs.Placing.{placed_none, placed_more, count_more, placed_file, placed_link, placed_sub, count_sub, length-put_directory}
 use Rattle.path_cap.proofs.tree.DirTree.+place.Goals as goal
 

@@ -1,7 +1,7 @@
 use Rattle.std.proofs.Common.{◌≡◌, ◌≤◌, ◌+◌, ◌*◌, length, drop}
 use Rattle.eio_value.specs.Directory.{entry_count, item_count}
 use Rattle.eio_value.specs.EntriesInside.{directory_of, item_of}
-use Rattle.row_model.specs.Directories.{placed}
+use Rattle.spec_parts.specs.Directories.{placed}
 use Rattle.path_cap.proofs.tree.DirTree.+place.Given as goal
 
 abbrev pub decreases-place_all : goal.decreases-place_all

@@ -1,5 +1,5 @@
 use Rattle.std.proofs.Common.{◌≡◌, Ok, rules}
-use Rattle.row_model.specs.PathCalls.{mkdir}
+use Rattle.spec_parts.specs.PathCalls.{mkdir}
 use Rattle.path_cap.specs.Changes.{Mkdir}
 use Rattle.path_cap.proofs.Keeping.{answered_keeps}
 use Rattle.path_cap.proofs.tree.DirTree.mkdir.Goals as goal

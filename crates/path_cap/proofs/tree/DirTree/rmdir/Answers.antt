@@ -1,6 +1,6 @@
 use Rattle.std.proofs.Common.{ap, sym, ◌∙◌}
 use Rattle.std.proofs.lemmas.Result.{on_ok_weaker}
-use Rattle.row_model.specs.PathCalls.{directory_removed}
+use Rattle.spec_parts.specs.PathCalls.{directory_removed}
 use Rattle.path_cap.specs.Changes.{Rmdir}
 use Rattle.path_cap.specs.Leading.{leads_of}
 use Rattle.path_cap.proofs.Keeping.{either_keeps}

@@ -1,5 +1,5 @@
 use Rattle.std.proofs.Common.{◌≡◌, Ok, rules}
-use Rattle.row_model.specs.PathCalls.{save_new}
+use Rattle.spec_parts.specs.PathCalls.{save_new}
 use Rattle.path_cap.specs.Changes.{SaveNew}
 use Rattle.path_cap.proofs.Keeping.{answered_keeps}
 use Rattle.path_cap.proofs.tree.DirTree.save_new.Goals as goal

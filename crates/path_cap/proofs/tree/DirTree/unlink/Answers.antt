@@ -1,5 +1,5 @@
 use Rattle.std.proofs.Common.{◌≡◌, Ok, rules}
-use Rattle.row_model.specs.PathCalls.{unlink}
+use Rattle.spec_parts.specs.PathCalls.{unlink}
 use Rattle.path_cap.specs.Changes.{Unlink}
 use Rattle.path_cap.proofs.Keeping.{answered_keeps}
 use Rattle.path_cap.proofs.tree.DirTree.unlink.Goals as goal

@@ -1,5 +1,5 @@
 use Rattle.std.proofs.Common.{◌≡◌, ◌<◌, true, length, arith, sym, ap, ◌∙◌, ◌∷◌, [], ◌++◌}
-use Rattle.row_model.specs.Pools.{is_out}
+use Rattle.spec_parts.specs.Pools.{is_out}
 use Rattle.wait_list.specs.Lists.{Core}
 use Rattle.resource_pool.specs.Using.{AreIdle, is_out_of}
 use Rattle.resource_pool.proofs.Using.{out_fits}

@@ -1,6 +1,6 @@
 use Rattle.std.proofs.Common.{ℕ, ◌<◌, map, sym, ap, ◌∙◌, subst}
 use Rattle.std.proofs.lemmas.List.{length-map}
-use Rattle.script_model.specs.Scripts.{Script}
+use Rattle.spec_script.specs.Scripts.{Script}
 use Rattle.script_forms.specs.Flat.{number_of, nodes_of}
 use Rattle.script_code.specs.Standing.{statements_at}
 use Rattle.script_code.specs.Numbered.{HasNumbers}

@@ -1,6 +1,6 @@
 use Rattle.std.proofs.Common.{subst}
-use Rattle.script_laws.specs.Soundness.{IsSound}
-use Rattle.script_laws.proofs.Scripts.{script_is_sound}
+use Rattle.law_script.specs.Scripts.Soundness.{IsSound}
+use Rattle.law_script.proofs.Scripts.Scripts.{script_is_sound}
 use Rattle.script_code.specs.Numbered.{HasNumbers}
 use Rattle.script_code.specs.ScriptInside.{view_of}
 use Rattle.script_code.proofs.Fitting.{tree_fits}

@@ -1,5 +1,5 @@
 use Rattle.std.proofs.Common.{ap, ◌∙◌}
-use Rattle.script_model.specs.Forms.{are_texts}
+use Rattle.spec_script.specs.Forms.{are_texts}
 use Rattle.script_draft.specs.Ahead.{ahead}
 use Rattle.script_draft.proofs.TextsAhead.{not_none, not_some, texts_end, texts_other, texts_on, texts_done}
 use Rattle.script_draft.proofs.cursor.Cursor.are_texts.Goals as goal

@@ -1,5 +1,5 @@
 use Rattle.std.proofs.Common.{◌≡◌, map, drop}
-use Rattle.script_model.specs.Forms.{are_texts}
+use Rattle.spec_script.specs.Forms.{are_texts}
 use Rattle.script_tree.specs.Pieces.{piece_of}
 use Rattle.script_draft.specs.Ahead.{ahead}
 use Rattle.script_draft.proofs.cursor.Cursor.are_texts.Given as goal

@@ -1,5 +1,5 @@
 use Rattle.std.proofs.Common.{◌≡◌, ◌∙◌, ap, sym, subst, List, []}
-use Rattle.row_model.specs.Row.{Row, Queued}
+use Rattle.spec_parts.specs.Row.{Row, Queued}
 use Rattle.wait_list.specs.Lists.{Core, WaitingList}
 use Rattle.stream_core.specs.Whole.{HasOneSide}
 use Rattle.stream_core.proofs.Sides.{no_adders}

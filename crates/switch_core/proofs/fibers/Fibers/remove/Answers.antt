@@ -1,5 +1,5 @@
 use Rattle.std.proofs.Common.{ap, ◌∙◌}
-use Rattle.row_model.specs.Switches.{without}
+use Rattle.spec_parts.specs.Switches.{without}
 use Rattle.switch_core.specs.Attached.{fibers_of}
 use Rattle.switch_core.proofs.Orders.{fibers_of-remove, timed-remove}
 use Rattle.switch_core.proofs.fibers.Fibers.remove.Goals as goal

@@ -1,6 +1,6 @@
 use Rattle.std.proofs.Common.{◌≡◌, ◌<◌, ◌≤◌, ◌∷◌, ◌++◌, [], List, Bool, true, false, length, map, arith, sym, ap, ◌∙◌, deque_capacity, length-append, length-set, slice_set, ◌+◌, ℕ}
 use Rattle.std.proofs.lemmas.List.{map-append, length-map}
-use Rattle.row_model.specs.Row.{Queued}
+use Rattle.spec_parts.specs.Row.{Queued}
 use Rattle.wait_list.specs.declared.queued.Queued.{Queued as Kept}
 use Rattle.wait_list.specs.declared.list.WaitList.TheInside.{Inside}
 use Rattle.wait_list.specs.Standing.{queued_of, Holds}

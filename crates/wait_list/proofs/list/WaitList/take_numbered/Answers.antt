@@ -1,7 +1,7 @@
 use Rattle.std.proofs.Common.{◌≡◌, ◌<◌, ◌==◌, ℕ, Bool, false, List, length, map, get_or, slice_set, arith, sym, ap, ◌∙◌, Some, None, length-set, deque_capacity}
 use Rattle.std.specs.Prelude.{find}
 use Rattle.std.specs.List.{position, remove}
-use Rattle.row_model.specs.Row.{Queued, but_first}
+use Rattle.spec_parts.specs.Row.{Queued, but_first}
 use Rattle.wait_list.specs.declared.queued.Queued.{Queued as Kept}
 use Rattle.wait_list.specs.Standing.{queued_of, Holds}
 use Rattle.wait_list.specs.Waits.{has_number}

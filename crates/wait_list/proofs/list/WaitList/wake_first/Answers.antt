@@ -1,5 +1,5 @@
 use Rattle.std.proofs.Common.{◌≡◌, ◌∙◌, ◌∷◌, ap, sym}
-use Rattle.row_model.specs.Row.{Queued}
+use Rattle.spec_parts.specs.Row.{Queued}
 use Rattle.wait_list.specs.Lists.{WaitingList}
 use Rattle.wait_list.specs.Standing.{queued_of}
 use Rattle.wait_list.proofs.Asking.{first_in_front, seek_lost}

@@ -1,8 +1,0 @@
-use Rattle.form_laws.proofs.NextLists.{group_forms, mocked_group_forms}
-use Rattle.form_laws.proofs.group_forms_alone.Goals as goal
-
-pub returns-clause-trees : goal.returns-clause-trees
-returns-clause-trees c = group_forms
-
-pub returns-clause-mocked : goal.returns-clause-mocked
-returns-clause-mocked c = mocked_group_forms

@@ -1,0 +1,11 @@
+pub mod Joining
+pub mod Parts
+pub mod Positions
+pub mod Steps
+pub mod ContextCalls
+pub mod SwitchRows
+pub mod SwitchCalls
+pub mod GroupCalls
+pub mod Preparing
+pub mod Moving
+pub mod Rows

@@ -1,0 +1,14 @@
+pub mod Lists
+pub mod Tables
+pub mod Bound
+pub mod Evaluating
+pub mod Going
+pub mod Statements
+pub mod Settling
+pub mod Passing
+pub mod ReadSteps
+pub mod ReadNames
+pub mod ReadItems
+pub mod ReadStatements
+pub mod ReadScripts
+pub mod Blocks

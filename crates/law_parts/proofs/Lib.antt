@@ -1,0 +1,10 @@
+pub mod Choices
+pub mod Alike
+pub mod Offs
+pub mod Items
+pub mod Waits
+pub mod Places
+pub mod Walks
+pub mod Staying
+pub mod Cancelling
+pub mod SwitchLaws

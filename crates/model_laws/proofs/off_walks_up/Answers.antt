@@ -1,7 +1,0 @@
-use Rattle.model_laws.proofs.Walks.{off_walks}
-use Rattle.model_laws.proofs.Staying.{parents_stay_older, no_parents}
-use Rattle.row_model.specs.ContextCalls.{no_contexts, after}
-use Rattle.model_laws.proofs.off_walks_up.Goals as goal
-
-pub returns : goal.returns
-returns c = λ calls x may. off_walks (after calls no_contexts).made (parents_stay_older calls no_contexts no_parents may) x

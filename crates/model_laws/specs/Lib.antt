@@ -1,5 +1,0 @@
-pub mod Offs
-pub mod Items
-pub mod Skips
-pub mod Waits
-pub mod Contexts

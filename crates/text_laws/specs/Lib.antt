@@ -1,4 +1,0 @@
-pub mod Texts
-pub mod Domains
-pub mod Laws
-pub mod DomainLaws

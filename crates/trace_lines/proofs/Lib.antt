@@ -1,0 +1,3 @@
+mod HistoryRows
+mod RowTables
+mod TraceRows

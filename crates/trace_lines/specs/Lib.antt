@@ -1,0 +1,4 @@
+pub mod Exits
+pub mod HistoryTexts
+pub mod Names
+pub mod TraceTexts
