@@ -8,4 +8,7 @@ mod strikes;
 mod waiting_laws;
 
 pub use strikes::{Strike, Strikes};
-pub use waiting_laws::{calls_go_in_step, contexts_go_in_step, domains_go_in_step, fibers_go_in_step, strikes_go_in_step, struck_by_number, waiting_goes_in_step, waiting_is_by_standing};
+pub use waiting_laws::{
+    calls_go_in_step, contexts_go_in_step, domains_go_in_step, fibers_go_in_step,
+    strikes_go_in_step, struck_by_number, waiting_goes_in_step, waiting_is_by_standing,
+};

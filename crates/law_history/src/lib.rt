@@ -10,4 +10,7 @@ mod wait_laws;
 
 pub use both_laws::{mock_runs_of_both_are_legal, runs_of_both_are_of_domains};
 pub use legal_laws::{parts_extend, parts_make_a_legal_run};
-pub use wait_laws::{items_in_order_in_runs, mock_moves_are_moves, mock_runs_are_legal, off_leaves_all, strikes_take_one};
+pub use wait_laws::{
+    items_in_order_in_runs, mock_moves_are_moves, mock_runs_are_legal, off_leaves_all,
+    strikes_take_one,
+};
