@@ -9,10 +9,10 @@ use Rattle.eio_value.specs.declared.plain.Plain.{Plain}
 use Rattle.slab.specs.Slab.{Slab, get, slab_len, with_value, Updates}
 use Rattle.spec_parts.specs.Contexts.{Context, never_made, context_at, is_live, live_count, is_full, Made, make, off, takes_effect, cancel}
 use Rattle.cancel_tree.specs.declared.kept.Jump.{Jump}
-use Rattle.cancel_tree.specs.declared.kept.Kept.{Kept}
-use Rattle.cancel_tree.specs.declared.kept.Place.{Place}
+use Rattle.cancel_tree.specs.declared.kept.KeptContext.{KeptContext}
+use Rattle.cancel_tree.specs.declared.kept.ContextKey.{ContextKey}
 use Rattle.cancel_tree.specs.Places.{place_at}
-use Rattle.cancel_tree.specs.Kept.{kept_at, context_of, listed, contexts_in, Stands, IsTree}
+use Rattle.cancel_tree.specs.KeptContext.{kept_at, context_of, listed, contexts_in, Stands, IsTree}
 use Rattle.cancel_tree.specs.Endings.{HasNoLiveChild}
 use Rattle.cancel_tree.proofs.Finding.{place_at-number, below_found, Rise-append, AreBelow-next, place_at-append_other, place_at-append_itself, rest_of, Rise-rest, AreBelow-rest, place_at-rest_other, place_at-rest_itself, absent_past}
 use Rattle.cancel_tree.proofs.Listing.{length-listed, listed_set, listed_same, live_count-set, live_count-append, live_count-end}
@@ -20,12 +20,12 @@ use Rattle.cancel_tree.proofs.Trees.{stands_there, live_is_placed, at_own}
 
 -- A value of a slab changes
 
-pub same_there : (slots : List (Option Kept)) (key : ℕ) (old new : Kept) → get_or slots key None ≡ Some old → get_or (slice_set slots key (Some new)) key None ≡ Some new
+pub same_there : (slots : List (Option KeptContext)) (key : ℕ) (old new : KeptContext) → get_or slots key None ≡ Some old → get_or (slice_set slots key (Some new)) key None ≡ Some new
 same_there [] key old new e = cc
 same_there (slot ∷ slots) zero old new e = refl
 same_there (slot ∷ slots) (suc key) old new e = same_there slots key old new e
 
-pub others_there : (slots : List (Option Kept)) (key other : ℕ) (new : Option Kept) → other ≢ key → get_or (slice_set slots key new) other None ≡ get_or slots other None
+pub others_there : (slots : List (Option KeptContext)) (key other : ℕ) (new : Option KeptContext) → other ≢ key → get_or (slice_set slots key new) other None ≡ get_or slots other None
 others_there [] key other new apart = refl
 others_there (slot ∷ slots) zero zero new apart = absurd (apart refl)
 others_there (slot ∷ slots) zero (suc other) new apart = refl
@@ -35,12 +35,12 @@ others_there (slot ∷ slots) (suc key) (suc other) new apart = others_there slo
 abbrev one_if : Bool → ℕ
 one_if b = cond b 1 0
 
-counted : (slot : Option Kept) (slots : List (Option Kept)) → count_by is_some (slot ∷ slots) ≡ one_if (is_some slot) + count_by is_some slots
-counted slot slots = sum_by-cons (λ (slot : Option Kept). one_if (is_some slot)) slot slots
+counted : (slot : Option KeptContext) (slots : List (Option KeptContext)) → count_by is_some (slot ∷ slots) ≡ one_if (is_some slot) + count_by is_some slots
+counted slot slots = sum_by-cons (λ (slot : Option KeptContext). one_if (is_some slot)) slot slots
 
-as_many : (slots : List (Option Kept)) (key : ℕ) (old new : Kept) → get_or slots key None ≡ Some old → count_by is_some (slice_set slots key (Some new)) ≡ count_by is_some slots
+as_many : (slots : List (Option KeptContext)) (key : ℕ) (old new : KeptContext) → get_or slots key None ≡ Some old → count_by is_some (slice_set slots key (Some new)) ≡ count_by is_some slots
 as_many [] key old new e = refl
-as_many (slot ∷ slots) zero old new e = counted (Some new) slots ∙ ap (λ (slot : Option Kept). one_if (is_some slot) + count_by is_some slots) (sym e) ∙ sym (counted slot slots)
+as_many (slot ∷ slots) zero old new e = counted (Some new) slots ∙ ap (λ (slot : Option KeptContext). one_if (is_some slot) + count_by is_some slots) (sym e) ∙ sym (counted slot slots)
 as_many (slot ∷ slots) (suc key) old new e = counted slot (slice_set slots key (Some new)) ∙ ap (λ n. one_if (is_some slot) + n) (as_many slots key old new e) ∙ sym (counted slot slots)
 
 -- Whether one more may be made
@@ -99,26 +99,26 @@ cancel_some contexts c why e = by (takes_effect contexts c) e
     by true e = refl
     by false e = absurd (true≢false (sym e))
 
-pub length-contexts_in : (made : ℕ) (kept : Slab Kept) (places : List Place) → length (contexts_in made kept places) ≡ made
+pub length-contexts_in : (made : ℕ) (kept : Slab KeptContext) (places : List ContextKey) → length (contexts_in made kept places) ≡ made
 unfolding contexts_in
 length-contexts_in made kept places = length-listed made (λ c. context_of (kept_at kept places c))
 
-pub found_if : (found : Option Place) → is_some found ≡ true → (place : Place) × (found ≡ Some place)
+pub found_if : (found : Option ContextKey) → is_some found ≡ true → (place : ContextKey) × (found ≡ Some place)
 found_if None e = absurd (true≢false (sym e))
 found_if (Some place) e = (place, refl)
 
-module _ (made : ℕ) (kept : Slab Kept) (places : List Place) (tree : IsTree made kept places) where
+module _ (made : ℕ) (kept : Slab KeptContext) (places : List ContextKey) (tree : IsTree made kept places) where
   -- two numbers aren't kept under one key
-  pub keys_differ : (c x : ℕ) (place other : Place) → place_at places c ≡ Some place → place_at places x ≡ Some other → x ≢ c → other.key ≢ place.key
+  pub keys_differ : (c x : ℕ) (place other : ContextKey) → place_at places c ≡ Some place → place_at places x ≡ Some other → x ≢ c → other.key ≢ place.key
   keys_differ c x place other at there apart same =
       let first : Stands made kept places place = tree.stands c place at in
       let second : Stands made kept places other = tree.stands x other there in
       let one : second.context ≡ first.context = (let f : get kept place.key ≡ Some first.context = first.found in let g : get kept other.key ≡ Some second.context = second.found in let h : get kept other.key ≡ get kept place.key = ap (get kept) same in cc) in
-      apart (sym (place_at-number places x other there) ∙ sym second.number ∙ ap (λ (context : Kept). context.number) one ∙ first.number ∙ place_at-number places c place at)
+      apart (sym (place_at-number places x other there) ∙ sym second.number ∙ ap (λ (context : KeptContext). context.number) one ∙ first.number ∙ place_at-number places c place at)
 
   -- a place stands as it stood, where its context is kept and its parent's place is unchanged
-  pub stays_standing : (made' : ℕ) (kept' : Slab Kept) (places' : List Place) (place : Place) (there : Stands made kept places place) → get kept' place.key ≡ get kept place.key
-      → ((parent : Place) → there.context.parent ≡ Some parent → place_at places' parent.number ≡ place_at places parent.number) → Stands made' kept' places' place
+  pub stays_standing : (made' : ℕ) (kept' : Slab KeptContext) (places' : List ContextKey) (place : ContextKey) (there : Stands made kept places place) → get kept' place.key ≡ get kept place.key
+      → ((parent : ContextKey) → there.context.parent ≡ Some parent → place_at places' parent.number ≡ place_at places parent.number) → Stands made' kept' places' place
   stays_standing made' kept' places' place there same parents = record {
     context = there.context;
     found = same ∙ there.found;
@@ -128,28 +128,28 @@ module _ (made : ℕ) (kept : Slab Kept) (places : List Place) (tree : IsTree ma
   }
 
   -- a live parent is found at its place
-  pub parent_is_placed : (number : ℕ) (found : Option Place) → is_live (contexts_in made kept places) number ≡ true → found ≡ place_at places number
-      → (option_map (λ (place : Place). place.number) found ≡ Some number) × ((p : Place) → found ≡ Some p → place_at places p.number ≡ Some p)
+  pub parent_is_placed : (number : ℕ) (found : Option ContextKey) → is_live (contexts_in made kept places) number ≡ true → found ≡ place_at places number
+      → (option_map (λ (place : ContextKey). place.number) found ≡ Some number) × ((p : ContextKey) → found ≡ Some p → place_at places p.number ≡ Some p)
   parent_is_placed number found lives e =
       let there = found_if found (ap is_some e ∙ sym (live_is_placed made kept places tree number) ∙ lives) in (
-        ap (option_map (λ (place : Place). place.number)) there.1 ∙ ap Some (place_at-number places number there.0 (sym e ∙ there.1)),
+        ap (option_map (λ (place : ContextKey). place.number)) there.1 ∙ ap Some (place_at-number places number there.0 (sym e ∙ there.1)),
         λ p f. at_own places number p (sym e ∙ f),
       )
 
   -- A reason
 
-  module _ (c : ℕ) (place : Place) (context changed : Kept) (kept' : Slab Kept) (at : place_at places c ≡ Some place) (found : get kept place.key ≡ Some context)
+  module _ (c : ℕ) (place : ContextKey) (context changed : KeptContext) (kept' : Slab KeptContext) (at : place_at places c ≡ Some place) (found : get kept place.key ≡ Some context)
       (number : changed.number ≡ context.number) (parent : changed.parent ≡ context.parent)
       (itself : get kept' place.key ≡ Some changed) (others : (key : ℕ) → key ≢ place.key → get kept' key ≡ get kept key) where
     kept_others : (x : ℕ) → x ≢ c → context_of (kept_at kept places x) ≡ context_of (kept_at kept' places x)
     kept_others x apart = by (place_at places x) refl
       where
-        by : (there : Option Place) → place_at places x ≡ there → context_of (option_and_then (λ (place : Place). get kept place.key) there) ≡ context_of (option_and_then (λ (place : Place). get kept' place.key) there)
+        by : (there : Option ContextKey) → place_at places x ≡ there → context_of (option_and_then (λ (place : ContextKey). get kept place.key) there) ≡ context_of (option_and_then (λ (place : ContextKey). get kept' place.key) there)
         by None e = refl
         by (Some other) e = ap context_of (sym (others other.key (keys_differ c x place other at e apart)))
 
     kept_itself : context_of (kept_at kept' places c) ≡ context_of (Some changed)
-    kept_itself = ap (λ there. context_of (option_and_then (λ (place : Place). get kept' place.key) there)) at ∙ ap context_of itself
+    kept_itself = ap (λ there. context_of (option_and_then (λ (place : ContextKey). get kept' place.key) there)) at ∙ ap context_of itself
 
     pub changed_list : contexts_in made kept' places ≡ slice_set (contexts_in made kept places) c (context_of (Some changed))
     unfolding contexts_in
@@ -173,7 +173,7 @@ module _ (made : ℕ) (kept : Slab Kept) (places : List Place) (tree : IsTree ma
       room = subst (λ n. 4096 ≤ n) (sym room) tree.room;
     }
       where
-        stands_changed : (x : ℕ) (other : Place) → place_at places x ≡ Some other → x ≡ c → Stands made kept' places other
+        stands_changed : (x : ℕ) (other : ContextKey) → place_at places x ≡ Some other → x ≡ c → Stands made kept' places other
         stands_changed x other e same =
             let one : place ≡ other = (let h : place_at places x ≡ place_at places c = ap (place_at places) same in cc) in
             let there : Stands made kept places place = tree.stands c place at in
@@ -181,16 +181,16 @@ module _ (made : ℕ) (kept : Slab Kept) (places : List Place) (tree : IsTree ma
             subst (Stands made kept' places) one record {
               context = changed;
               found = itself;
-              number = number ∙ ap (λ (context : Kept). context.number) (sym context_is) ∙ there.number;
-              older = λ p e. there.older p (ap (λ (context : Kept). context.parent) context_is ∙ sym parent ∙ e);
-              placed = λ p e. there.placed p (ap (λ (context : Kept). context.parent) context_is ∙ sym parent ∙ e);
+              number = number ∙ ap (λ (context : KeptContext). context.number) (sym context_is) ∙ there.number;
+              older = λ p e. there.older p (ap (λ (context : KeptContext). context.parent) context_is ∙ sym parent ∙ e);
+              placed = λ p e. there.placed p (ap (λ (context : KeptContext). context.parent) context_is ∙ sym parent ∙ e);
             }
 
   -- the context at a place has a reason from now on
-  abbrev pub with_reason : Kept → Plain → Kept
+  abbrev pub with_reason : KeptContext → Plain → KeptContext
   with_reason context why = record context { reason = Some why }
 
-  module _ (c : ℕ) (place : Place) (context : Kept) (why : Plain) (at : place_at places c ≡ Some place) (found : get kept place.key ≡ Some context) where
+  module _ (c : ℕ) (place : ContextKey) (context : KeptContext) (why : Plain) (at : place_at places c ≡ Some place) (found : get kept place.key ≡ Some context) where
     pub cancelled_tree : IsTree made (with_value kept place.key (with_reason context why)) places
     cancelled_tree =
         changed_tree c place context (with_reason context why) (with_value kept place.key (with_reason context why)) at found refl refl
@@ -209,19 +209,19 @@ module _ (made : ℕ) (kept : Slab Kept) (places : List Place) (tree : IsTree ma
 
   -- One more
 
-  module _ (key : ℕ) (parent : Option Place) (protected : Bool) (jump : Option Jump) (kept' : Slab Kept) (vacant : get kept key ≡ None)
+  module _ (key : ℕ) (parent : Option ContextKey) (protected : Bool) (jump : Option Jump) (kept' : Slab KeptContext) (vacant : get kept key ≡ None)
       (updates : Updates kept kept' key (Some (record { number = made; parent = parent; protected = protected; reason = None; jump = jump })))
-      (placed : (p : Place) → parent ≡ Some p → place_at places p.number ≡ Some p) where
-    abbrev pub new_place : Place
+      (placed : (p : ContextKey) → parent ≡ Some p → place_at places p.number ≡ Some p) where
+    abbrev pub new_place : ContextKey
     new_place = record { number = made; key = key }
 
-    abbrev pub new_kept : Kept
+    abbrev pub new_kept : KeptContext
     new_kept = record { number = made; parent = parent; protected = protected; reason = None; jump = jump }
 
-    abbrev pub more : List Place
+    abbrev pub more : List ContextKey
     more = places ++ new_place ∷ []
 
-    pub key_is_new : (x : ℕ) (place : Place) → place_at places x ≡ Some place → place.key ≢ key
+    pub key_is_new : (x : ℕ) (place : ContextKey) → place_at places x ≡ Some place → place.key ≢ key
     key_is_new x place e same =
         let there : Stands made kept places place = tree.stands x place e in
         let f : get kept place.key ≡ Some there.context = there.found in
@@ -233,10 +233,10 @@ module _ (made : ℕ) (kept : Slab Kept) (places : List Place) (tree : IsTree ma
 
     kept_older_ones : (x : ℕ) → x < made → context_of (kept_at kept' more x) ≡ context_of (kept_at kept places x)
     kept_older_ones x below =
-        ap (λ there. context_of (option_and_then (λ (place : Place). get kept' place.key) there)) (place_at-append_other places new_place x (older_apart x below))
+        ap (λ there. context_of (option_and_then (λ (place : ContextKey). get kept' place.key) there)) (place_at-append_other places new_place x (older_apart x below))
         ∙ by (place_at places x) refl
       where
-        by : (there : Option Place) → place_at places x ≡ there → context_of (option_and_then (λ (place : Place). get kept' place.key) there) ≡ context_of (option_and_then (λ (place : Place). get kept place.key) there)
+        by : (there : Option ContextKey) → place_at places x ≡ there → context_of (option_and_then (λ (place : ContextKey). get kept' place.key) there) ≡ context_of (option_and_then (λ (place : ContextKey). get kept place.key) there)
         by None e = refl
         by (Some place) e = ap context_of (updates.others place.key (key_is_new x place e))
 
@@ -252,7 +252,7 @@ module _ (made : ℕ) (kept : Slab Kept) (places : List Place) (tree : IsTree ma
         ap (λ n. listed n (λ x. context_of (kept_at kept' more x))) (add-one made)
         ∙ ap₂ (λ contexts context. contexts ++ context ∷ [])
         (listed_same made (λ x. context_of (kept_at kept' more x)) (λ x. context_of (kept_at kept places x)) kept_older_ones)
-        (ap (λ there. context_of (option_and_then (λ (place : Place). get kept' place.key) there)) new_there ∙ ap context_of updates.changed)
+        (ap (λ there. context_of (option_and_then (λ (place : ContextKey). get kept' place.key) there)) new_there ∙ ap context_of updates.changed)
 
     more_many : length more ≡ length places + 1
     more_many = length-append places (new_place ∷ [])
@@ -271,10 +271,10 @@ module _ (made : ℕ) (kept : Slab Kept) (places : List Place) (tree : IsTree ma
       room = subst (λ n. 4096 ≤ n) (sym room) tree.room;
     }
       where
-        parent_stays : (p : Place) → place_at places p.number ≡ Some p → place_at more p.number ≡ Some p
+        parent_stays : (p : ContextKey) → place_at places p.number ≡ Some p → place_at more p.number ≡ Some p
         parent_stays p e = place_at-append_other places new_place p.number (λ same. let below : p.number < made = below_found made places p.number p tree.below e in absurd (omega arith)) ∙ e
 
-        stands_new : (x : ℕ) (place : Place) → place_at more x ≡ Some place → x ≡ made → Stands (made + 1) kept' more place
+        stands_new : (x : ℕ) (place : ContextKey) → place_at more x ≡ Some place → x ≡ made → Stands (made + 1) kept' more place
         stands_new x place e same =
             let one : new_place ≡ place = (let h : place_at more x ≡ place_at more made = ap (place_at more) same in let g : place_at more made ≡ Some new_place = new_there in cc) in
             subst (Stands (made + 1) kept' more) one record {
@@ -285,7 +285,7 @@ module _ (made : ℕ) (kept : Slab Kept) (places : List Place) (tree : IsTree ma
               placed = λ p e. parent_stays p (placed p e);
             }
 
-        stands_old : (x : ℕ) (place : Place) → place_at more x ≡ Some place → x ≢ made → Stands (made + 1) kept' more place
+        stands_old : (x : ℕ) (place : ContextKey) → place_at more x ≡ Some place → x ≢ made → Stands (made + 1) kept' more place
         stands_old x place e apart =
             let before : place_at places x ≡ Some place = sym (place_at-append_other places new_place x (λ same. apart (sym same))) ∙ e in
             let there : Stands made kept places place = tree.stands x place before in
@@ -294,10 +294,10 @@ module _ (made : ℕ) (kept : Slab Kept) (places : List Place) (tree : IsTree ma
 
   -- One ends
 
-  module _ (c i : ℕ) (gone : Place) (kept' : Slab Kept) (at : place_at places c ≡ Some gone) (there : slice_get places i ≡ Some gone)
+  module _ (c i : ℕ) (gone : ContextKey) (kept' : Slab KeptContext) (at : place_at places c ≡ Some gone) (there : slice_get places i ≡ Some gone)
       (updates : Updates kept kept' gone.key None)
       (childless : HasNoLiveChild (contexts_in made kept places) c) where
-    abbrev pub fewer : List Place
+    abbrev pub fewer : List ContextKey
     fewer = rest_of places i
 
     pub number_is : gone.number ≡ c
@@ -312,9 +312,9 @@ module _ (made : ℕ) (kept : Slab Kept) (places : List Place) (tree : IsTree ma
     kept_others_left : (x : ℕ) → x ≢ c → context_of (kept_at kept places x) ≡ context_of (kept_at kept' fewer x)
     kept_others_left x apart =
         by (place_at places x) refl
-        ∙ ap (λ there. context_of (option_and_then (λ (place : Place). get kept' place.key) there)) (sym (others_placed x apart))
+        ∙ ap (λ there. context_of (option_and_then (λ (place : ContextKey). get kept' place.key) there)) (sym (others_placed x apart))
       where
-        by : (found : Option Place) → place_at places x ≡ found → context_of (option_and_then (λ (place : Place). get kept place.key) found) ≡ context_of (option_and_then (λ (place : Place). get kept' place.key) found)
+        by : (found : Option ContextKey) → place_at places x ≡ found → context_of (option_and_then (λ (place : ContextKey). get kept place.key) found) ≡ context_of (option_and_then (λ (place : ContextKey). get kept' place.key) found)
         by None e = refl
         by (Some other) e = ap context_of (sym (updates.others other.key (keys_differ c x gone other at e apart)))
 
@@ -322,18 +322,18 @@ module _ (made : ℕ) (kept : Slab Kept) (places : List Place) (tree : IsTree ma
     unfolding contexts_in
     ended_list =
         listed_set made (λ x. context_of (kept_at kept places x)) (λ x. context_of (kept_at kept' fewer x)) c (below_found made places c gone tree.below at) (λ x below apart. kept_others_left x apart)
-        ∙ ap (λ found. slice_set (listed made (λ x. context_of (kept_at kept places x))) c (context_of (option_and_then (λ (place : Place). get kept' place.key) found))) gone_there
+        ∙ ap (λ found. slice_set (listed made (λ x. context_of (kept_at kept places x))) c (context_of (option_and_then (λ (place : ContextKey). get kept' place.key) found))) gone_there
 
     gone_lives : (context_at (contexts_in made kept places) c).ended ≡ false
     gone_lives = let stood : Stands made kept places gone = tree.stands c gone at in ap (λ (context : Context). context.ended) (stands_there made kept places tree c gone stood.context at stood.found)
 
     -- no context that is left has it as its parent
-    pub parent_left : (x : ℕ) (place : Place) (e : place_at places x ≡ Some place) (p : Place) → (tree.stands x place e).context.parent ≡ Some p → p.number ≢ c
+    pub parent_left : (x : ℕ) (place : ContextKey) (e : place_at places x ≡ Some place) (p : ContextKey) → (tree.stands x place e).context.parent ≡ Some p → p.number ≢ c
     parent_left x place e p parent same =
         let stood : Stands made kept places place = tree.stands x place e in
         let lives : is_live (contexts_in made kept places) x ≡ true = live_is_placed made kept places tree x ∙ ap is_some e in
         let context : context_at (contexts_in made kept places) x ≡ context_of (Some stood.context) = stands_there made kept places tree x place stood.context e stood.found in
-        childless x lives (ap (λ (context : Context). context.parent) context ∙ ap (option_map (λ (place : Place). place.number)) parent ∙ ap Some same)
+        childless x lives (ap (λ (context : Context). context.parent) context ∙ ap (option_map (λ (place : ContextKey). place.number)) parent ∙ ap Some same)
 
     pub ended_tree : length fewer + 1 ≡ length places → slab_len kept' + 1 ≡ slab_len kept → kept'.capacity ≡ kept.capacity → IsTree made kept' fewer
     ended_tree count many room = record {
@@ -351,7 +351,7 @@ module _ (made : ℕ) (kept : Slab Kept) (places : List Place) (tree : IsTree ma
         same_less : (a b : ℕ) → a + 1 ≡ b + 1 → a ≡ b
         same_less a b e = omega arith
 
-        stands_left : (x : ℕ) (place : Place) → place_at fewer x ≡ Some place → Stands made kept' fewer place
+        stands_left : (x : ℕ) (place : ContextKey) → place_at fewer x ≡ Some place → Stands made kept' fewer place
         stands_left x place e = elim (eqb_tells x c) [
           | inl same ↦ (let h : place_at fewer x ≡ place_at fewer c = ap (place_at fewer) same.1 in let g : place_at fewer c ≡ None = gone_there in cc)
           | inr apart ↦

@@ -12,11 +12,11 @@ use Rattle.law_parts.proofs.Places.{others_unchanged, older_unchanged, made_last
 use Rattle.law_parts.proofs.Staying.{same_above}
 use Rattle.law_parts.proofs.Walks.{above_is_parent, goes_up_walks}
 use Rattle.cancel_tree.specs.declared.kept.Jump.{Jump}
-use Rattle.cancel_tree.specs.declared.kept.Kept.{Kept}
-use Rattle.cancel_tree.specs.declared.kept.Place.{Place}
+use Rattle.cancel_tree.specs.declared.kept.KeptContext.{KeptContext}
+use Rattle.cancel_tree.specs.declared.kept.ContextKey.{ContextKey}
 use Rattle.cancel_tree.specs.Endings.{HasNoLiveChild}
 use Rattle.cancel_tree.specs.Jumps.{JumpsFrom, JumpsUnder, JumpsTo, HasJumps}
-use Rattle.cancel_tree.specs.Kept.{context_of, contexts_in, Stands, IsTree}
+use Rattle.cancel_tree.specs.KeptContext.{context_of, contexts_in, Stands, IsTree}
 use Rattle.cancel_tree.specs.Places.{place_at}
 use Rattle.cancel_tree.proofs.Changes.{same_there, others_there, with_reason, keys_differ, changed_list, made_list, made_tree, key_is_new, new_there, ended_list, fewer, others_placed, parent_left, gone_there, length-contexts_in}
 use Rattle.cancel_tree.proofs.Finding.{below_found, tells_other, same_number, place_at-append_other}
@@ -62,17 +62,17 @@ module _ (before after : List Context) (Good : ℕ → Type 0) (same : (x : ℕ)
       by true t later = subst Good (same_number x q t) good
       by false t later = onward (above before x) refl (either (x == q) _ t e) later
 
-  jumps_on : (places places' : List Place) (c : ℕ) (to : Place) → Good c → Good to.number → place_at places' to.number ≡ place_at places to.number → JumpsTo before places c to → JumpsTo after places' c to
+  jumps_on : (places places' : List ContextKey) (c : ℕ) (to : ContextKey) → Good c → Good to.number → place_at places' to.number ≡ place_at places to.number → JumpsTo before places c to → JumpsTo after places' c to
   jumps_on places places' c to good further there jumps = record {
     placed = there ∙ jumps.placed;
     further = jumps.further;
     alike = λ x le. up_alike c x good ∙ jumps.alike x le ∙ sym (up_alike to.number x further);
   }
 
-module _ (made : ℕ) (kept : Slab Kept) (places : List Place) (tree : IsTree made kept places) (has : HasJumps made kept places) where
+module _ (made : ℕ) (kept : Slab KeptContext) (places : List ContextKey) (tree : IsTree made kept places) (has : HasJumps made kept places) where
   -- A reason
 
-  module _ (c : ℕ) (place : Place) (context changed : Kept) (kept' : Slab Kept) (at : place_at places c ≡ Some place) (found : get kept place.key ≡ Some context)
+  module _ (c : ℕ) (place : ContextKey) (context changed : KeptContext) (kept' : Slab KeptContext) (at : place_at places c ≡ Some place) (found : get kept place.key ≡ Some context)
       (number : changed.number ≡ context.number) (parent : changed.parent ≡ context.parent) (protected : changed.protected ≡ context.protected) (jump : changed.jump ≡ context.jump)
       (itself : get kept' place.key ≡ Some changed) (others : (key : ℕ) → key ≢ place.key → get kept' key ≡ get kept key) where
     above_changed : (x : ℕ) → above (contexts_in made kept' places) x ≡ above (contexts_in made kept places) x
@@ -80,7 +80,7 @@ module _ (made : ℕ) (kept : Slab Kept) (places : List Place) (tree : IsTree ma
         let stood : context_at (contexts_in made kept places) c ≡ context_of (Some context) = stands_there made kept places tree c place context at found in
         ap (λ contexts. above contexts x) (changed_list made kept places tree c place context changed kept' at found number parent itself others)
         ∙ same_above (contexts_in made kept places) c x (context_of (Some changed))
-        (ap (option_map (λ (place : Place). place.number)) parent ∙ sym (ap (λ (context : Context). context.parent) stood))
+        (ap (option_map (λ (place : ContextKey). place.number)) parent ∙ sym (ap (λ (context : Context). context.parent) stood))
         (protected ∙ sym (ap (λ (context : Context). context.protected) stood))
 
     pub jumps_changed : HasJumps made kept' places
@@ -90,14 +90,14 @@ module _ (made : ℕ) (kept : Slab Kept) (places : List Place) (tree : IsTree ma
           (elim (eqb_tells x c) [
             | inl same ↦
                 let one : place ≡ other = (let h : place_at places x ≡ place_at places c = ap (place_at places) same.1 in cc) in
-                let now : changed ≡ left = (let h : get kept' other.key ≡ get kept' place.key = ap (λ (place : Place). get kept' place.key) (sym one) in cc) in
-                let was : get kept other.key ≡ Some context = ap (λ (place : Place). get kept place.key) (sym one) ∙ found in
-                has.jumps x other context there was to (sym jump ∙ ap (λ (context : Kept). context.jump) now ∙ e)
+                let now : changed ≡ left = (let h : get kept' other.key ≡ get kept' place.key = ap (λ (place : ContextKey). get kept' place.key) (sym one) in cc) in
+                let was : get kept other.key ≡ Some context = ap (λ (place : ContextKey). get kept place.key) (sym one) ∙ found in
+                has.jumps x other context there was to (sym jump ∙ ap (λ (context : KeptContext). context.jump) now ∙ e)
             | inr apart ↦ has.jumps x other left there (sym (others other.key (keys_differ made kept places tree c x place other at there apart.1)) ∙ kept_there) to e
           ]);
     }
 
-  pub jumps_cancelled : (c : ℕ) (place : Place) (context : Kept) (why : Plain) → place_at places c ≡ Some place → get kept place.key ≡ Some context → HasJumps made (with_value kept place.key (with_reason made kept places tree context why)) places
+  pub jumps_cancelled : (c : ℕ) (place : ContextKey) (context : KeptContext) (why : Plain) → place_at places c ≡ Some place → get kept place.key ≡ Some context → HasJumps made (with_value kept place.key (with_reason made kept places tree context why)) places
   jumps_cancelled c place context why at found =
       jumps_changed c place context (with_reason made kept places tree context why) (with_value kept place.key (with_reason made kept places tree context why)) at found refl refl refl refl
       (same_there kept.slots place.key context (with_reason made kept places tree context why) found)
@@ -105,11 +105,11 @@ module _ (made : ℕ) (kept : Slab Kept) (places : List Place) (tree : IsTree ma
 
   -- One more
 
-  module _ (key : ℕ) (parent : Option Place) (protected : Bool) (jump : Option Jump) (kept' : Slab Kept) (vacant : get kept key ≡ None)
+  module _ (key : ℕ) (parent : Option ContextKey) (protected : Bool) (jump : Option Jump) (kept' : Slab KeptContext) (vacant : get kept key ≡ None)
       (updates : Updates kept kept' key (Some (record { number = made; parent = parent; protected = protected; reason = None; jump = jump })))
-      (placed : (p : Place) → parent ≡ Some p → place_at places p.number ≡ Some p) (many : slab_len kept' ≡ slab_len kept + 1) (room : kept'.capacity ≡ kept.capacity)
+      (placed : (p : ContextKey) → parent ≡ Some p → place_at places p.number ≡ Some p) (many : slab_len kept' ≡ slab_len kept + 1) (room : kept'.capacity ≡ kept.capacity)
       (under : (to : Jump) → jump ≡ Some to → JumpsUnder kept parent protected to) where
-    abbrev wider : List Place
+    abbrev wider : List ContextKey
     wider = places ++ record { number = made; key = key } ∷ []
 
     abbrev new_context : Context
@@ -134,19 +134,19 @@ module _ (made : ℕ) (kept : Slab Kept) (places : List Place) (tree : IsTree ma
     older_alike : (x c : ℕ) → x < made → goes_up_to (contexts_in (made + 1) kept' wider) x c ≡ goes_up_to (contexts_in made kept places) x c
     older_alike x c below = up_alike (contexts_in made kept places) (contexts_in (made + 1) kept' wider) (λ x. x < made) above_older older_closed x c below
 
-    still_placed : (p : Place) → place_at places p.number ≡ Some p → place_at wider p.number ≡ Some p
+    still_placed : (p : ContextKey) → place_at places p.number ≡ Some p → place_at wider p.number ≡ Some p
     still_placed p e =
         place_at-append_other places (record { number = made; key = key }) p.number (λ same. let below : p.number < made = below_found made places p.number p tree.below e in absurd (omega arith)) ∙ e
 
     -- the new one's first step
-    first_step : (p : Place) → protected ≡ false → parent ≡ Some p → above (contexts_in (made + 1) kept' wider) made ≡ Some p.number
+    first_step : (p : ContextKey) → protected ≡ false → parent ≡ Some p → above (contexts_in (made + 1) kept' wider) made ≡ Some p.number
     first_step p open_above e =
         ap (λ contexts. above contexts made) new_list
         ∙ ap above_of (made_last (contexts_in made kept places) made new_context (sym (length-contexts_in made kept places)))
-        ∙ ap (λ b. elim b as (λ _. Option ℕ) [ true ↦ None | false ↦ option_map (λ (place : Place). place.number) parent ]) open_above
-        ∙ ap (option_map (λ (place : Place). place.number)) e
+        ∙ ap (λ b. elim b as (λ _. Option ℕ) [ true ↦ None | false ↦ option_map (λ (place : ContextKey). place.number) parent ]) open_above
+        ∙ ap (option_map (λ (place : ContextKey). place.number)) e
 
-    from_new : (p : Place) → protected ≡ false → parent ≡ Some p → (x : ℕ) → x < made → goes_up_to (contexts_in (made + 1) kept' wider) made x ≡ goes_up_to (contexts_in made kept places) p.number x
+    from_new : (p : ContextKey) → protected ≡ false → parent ≡ Some p → (x : ℕ) → x < made → goes_up_to (contexts_in (made + 1) kept' wider) made x ≡ goes_up_to (contexts_in made kept places) p.number x
     from_new p open_above e x below =
         goes_up_walks (contexts_in (made + 1) kept' wider) (parents_older (made + 1) kept' wider new_tree) made x
         ∙ ap (λ b. b || elim (above (contexts_in (made + 1) kept' wider) made) as (λ _. Bool) [ None ↦ false | Some p ↦ goes_up_to (contexts_in (made + 1) kept' wider) p x ]) (tells_other made x (λ same. absurd (omega arith)))
@@ -158,7 +158,7 @@ module _ (made : ℕ) (kept : Slab Kept) (places : List Place) (tree : IsTree ma
       where
         by : JumpsFrom kept (under to e).place to → JumpsTo (contexts_in (made + 1) kept' wider) wider made to.place
         by (inl same) =
-            let p : Place = (under to e).place in
+            let p : ContextKey = (under to e).place in
             let there : place_at places p.number ≡ Some p = placed p (under to e).under in
             let below : p.number < made = below_found made places p.number p tree.below there in
             subst (λ place. JumpsTo (contexts_in (made + 1) kept' wider) wider made place) (sym same) record {
@@ -167,7 +167,7 @@ module _ (made : ℕ) (kept : Slab Kept) (places : List Place) (tree : IsTree ma
               alike = λ x le. from_new p (under to e).open_above (under to e).under x (omega arith) ∙ sym (older_alike p.number x below);
             }
         by (inr two) =
-            let p : Place = (under to e).place in
+            let p : ContextKey = (under to e).place in
             let there : place_at places p.number ≡ Some p = placed p (under to e).under in
             let below : p.number < made = below_found made places p.number p tree.below there in
             let one : JumpsTo (contexts_in made kept places) places p.number two.first.place = has.jumps p.number p two.context there two.found two.first two.jumps in
@@ -189,8 +189,8 @@ module _ (made : ℕ) (kept : Slab Kept) (places : List Place) (tree : IsTree ma
       jumps = λ x place context there kept_there to e. elim (eqb_tells x made) [
         | inl same ↦
             let one : record { number = made; key = key } ≡ place = (let h : place_at wider x ≡ place_at wider made = ap (place_at wider) same.1 in let g : place_at wider made ≡ Some (record { number = made; key = key }) = new_there made kept places tree key parent protected jump kept' vacant updates placed in cc) in
-            let now : record { number = made; parent = parent; protected = protected; reason = None; jump = jump } ≡ context = (let h : get kept' place.key ≡ get kept' key = ap (λ (place : Place). get kept' place.key) (sym one) in let g = updates.changed in cc) in
-            subst (λ x. JumpsTo (contexts_in (made + 1) kept' wider) wider x to.place) (sym same.1) (jumps_new to (ap (λ (context : Kept). context.jump) now ∙ e))
+            let now : record { number = made; parent = parent; protected = protected; reason = None; jump = jump } ≡ context = (let h : get kept' place.key ≡ get kept' key = ap (λ (place : ContextKey). get kept' place.key) (sym one) in let g = updates.changed in cc) in
+            subst (λ x. JumpsTo (contexts_in (made + 1) kept' wider) wider x to.place) (sym same.1) (jumps_new to (ap (λ (context : KeptContext). context.jump) now ∙ e))
         | inr apart ↦
             let before : place_at places x ≡ Some place = sym (place_at-append_other places (record { number = made; key = key }) x (λ same. apart.1 (sym same))) ∙ there in
             let old : JumpsTo (contexts_in made kept places) places x to.place = has.jumps x place context before (sym (updates.others place.key (key_is_new made kept places tree key parent protected jump kept' vacant updates placed x place before)) ∙ kept_there) to e in
@@ -202,15 +202,15 @@ module _ (made : ℕ) (kept : Slab Kept) (places : List Place) (tree : IsTree ma
 
   -- One ends
 
-  module _ (c i : ℕ) (gone : Place) (kept' : Slab Kept) (at : place_at places c ≡ Some gone) (there : slice_get places i ≡ Some gone)
+  module _ (c i : ℕ) (gone : ContextKey) (kept' : Slab KeptContext) (at : place_at places c ≡ Some gone) (there : slice_get places i ≡ Some gone)
       (updates : Updates kept kept' gone.key None)
       (childless : HasNoLiveChild (contexts_in made kept places) c) where
-    abbrev left : List Place
+    abbrev left : List ContextKey
     left = fewer made kept places tree c i gone kept' at there updates childless
 
     -- a live context that stays
     record Stays (x : ℕ) : Type 0 where
-      pub place : Place
+      pub place : ContextKey
       pub found : place_at places x ≡ Some place
       pub apart : x ≢ c
 
@@ -225,7 +225,7 @@ module _ (made : ℕ) (kept : Slab Kept) (places : List Place) (tree : IsTree ma
         stood : context_at (contexts_in made kept places) x ≡ context_of (Some (tree.stands x stays.place stays.found).context)
         stood = let there : Stands made kept places stays.place = tree.stands x stays.place stays.found in stands_there made kept places tree x stays.place there.context stays.found there.found
 
-        by : (parent : Option Place) → (tree.stands x stays.place stays.found).context.parent ≡ parent → option_map (λ (place : Place). place.number) parent ≡ Some p → Stays p
+        by : (parent : Option ContextKey) → (tree.stands x stays.place stays.found).context.parent ≡ parent → option_map (λ (place : ContextKey). place.number) parent ≡ Some p → Stays p
         by None k f = absurd (none-some p f)
         by (Some parent) k f =
             let same : parent.number ≡ p = cc in
@@ -250,7 +250,7 @@ module _ (made : ℕ) (kept : Slab Kept) (places : List Place) (tree : IsTree ma
       ];
     }
       where
-        gone_is_none : (x : ℕ) (place : Place) → x ≡ c → place_at left x ≡ Some place → ⊥
+        gone_is_none : (x : ℕ) (place : ContextKey) → x ≡ c → place_at left x ≡ Some place → ⊥
         gone_is_none x place same found =
             let h : place_at left x ≡ place_at left c = ap (place_at left) same in
             let g : place_at left c ≡ None = gone_there made kept places tree c i gone kept' at there updates childless in

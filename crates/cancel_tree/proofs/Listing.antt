@@ -3,7 +3,7 @@ use Rattle.std.proofs.Common.{◌≡◌, ℕ, zero, suc, ◌+◌, ◌<◌, ◌�
 use Rattle.std.proofs.lemmas.List.Sums.{sum_by-cons, sum_by_push}
 use Rattle.spec_parts.specs.Contexts.{Context, never_made, context_at, live_count}
 use Rattle.law_parts.proofs.Places.{older_unchanged, made_last, past_all}
-use Rattle.cancel_tree.specs.Kept.{listed}
+use Rattle.cancel_tree.specs.KeptContext.{listed}
 
 pub length-listed : (n : ℕ) (at : ℕ → Context) → length (listed n at) ≡ n
 unfolding listed

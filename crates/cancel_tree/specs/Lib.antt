@@ -4,6 +4,6 @@ pub mod Endings
 pub mod Entered
 pub mod Forgetting
 pub mod Jumps
-pub mod Kept
+pub mod KeptContext
 pub mod Places
 pub mod Waits

@@ -10,7 +10,7 @@ use std::collections::VecDeque;
 
 /// The number of a live context, and the key under which it is kept.
 #[derive(Clone, Copy)]
-pub(crate) struct Place {
+pub(crate) struct ContextKey {
     pub(crate) number: u32,
     pub(crate) key: usize,
 }
@@ -18,16 +18,16 @@ pub(crate) struct Place {
 /// A context further up on the way of another, and how many steps lie between.
 #[derive(Clone, Copy)]
 pub(crate) struct Jump {
-    pub(crate) place: Place,
+    pub(crate) place: ContextKey,
     pub(crate) length: u32,
 }
 
 /// A live context.
 #[derive(Clone, Copy)]
-pub(crate) struct Kept {
+pub(crate) struct KeptContext {
     pub(crate) number: u32,
     /// Where the parent is, which lives as long as its children.
-    pub(crate) parent: Option<Place>,
+    pub(crate) parent: Option<ContextKey>,
     pub(crate) protected: bool,
     /// By which it was itself cancelled.
     pub(crate) reason: Option<Plain>,
@@ -35,16 +35,16 @@ pub(crate) struct Kept {
     pub(crate) jump: Option<Jump>,
 }
 
-impl Kept {
+impl KeptContext {
     /// Where a cancellation comes down from.
-    pub(crate) fn above(&self) -> Option<Place>
+    pub(crate) fn above(&self) -> Option<ContextKey>
         ensures { result ≡ kept_above self.now }
     {
         if self.protected { None } else { self.parent }
     }
 
     /// One step, or a jump that doesn't pass it, towards a context on the way up.
-    pub(crate) fn towards(&self, c: u32) -> Option<Place>
+    pub(crate) fn towards(&self, c: u32) -> Option<ContextKey>
         ensures { result ≡ kept_towards c self.now }
     {
         match self.jump {
@@ -55,7 +55,7 @@ impl Kept {
 }
 
 /// The jump of a child of this context: two jumps up from it where they are equally long, else one step.
-fn jump_from(kept: &Slab<Kept>, parent: Place) -> Jump
+fn jump_from(kept: &Slab<KeptContext>, parent: ContextKey) -> Jump
     ensures { JumpsFrom kept.now parent result }
 {
     let step = Jump {
@@ -81,7 +81,7 @@ fn jump_from(kept: &Slab<Kept>, parent: Place) -> Jump
 }
 
 /// The jump of a new context.
-pub(crate) fn jump_of(kept: &Slab<Kept>, parent: Option<Place>, protected: bool) -> Option<Jump>
+pub(crate) fn jump_of(kept: &Slab<KeptContext>, parent: Option<ContextKey>, protected: bool) -> Option<Jump>
     ensures { IfSome result (JumpsUnder kept.now parent protected) }
 {
     match parent {
@@ -91,7 +91,7 @@ pub(crate) fn jump_of(kept: &Slab<Kept>, parent: Option<Place>, protected: bool)
 }
 
 /// The place of a context, if it is live.
-pub(crate) fn place_of(places: &VecDeque<Place>, c: u32) -> Option<Place>
+pub(crate) fn place_of(places: &VecDeque<ContextKey>, c: u32) -> Option<ContextKey>
     requires { Rise places.now.items }
     ensures { result ≡ place_at places.now.items c }
 {

@@ -12,7 +12,7 @@ ghost use Rattle.std.specs.Result.{result_ok};
 ghost use Rattle.spec_parts.specs.Contexts as contexts;
 ghost use Rattle.cancel_tree.specs.Endings.{HasNoLiveChild, without};
 
-use crate::kept::{Kept, Place, jump_of, place_of};
+use crate::kept::{KeptContext, ContextKey, jump_of, place_of};
 use eio_value::{Full, NoMemory, Plain};
 use slab::Slab;
 use std::alloc::Global;
@@ -28,9 +28,9 @@ pub(crate) struct Tree {
     /// How many were made: the number of the next.
     made: u32,
     /// Those that live.
-    kept: Slab<Kept>,
+    kept: Slab<KeptContext>,
     /// Their places, in order of number.
-    places: VecDeque<Place>,
+    places: VecDeque<ContextKey>,
 }
 
 impl Model for Tree {
@@ -40,7 +40,7 @@ impl Model for Tree {
 
     ghost Value = { List Context };
 
-    ghost use Rattle.cancel_tree.specs.Kept.{contexts_in};
+    ghost use Rattle.cancel_tree.specs.KeptContext.{contexts_in};
     ghost use Rattle.cancel_tree.specs.Jumps.{IsSound};
 
     ghost view = { λ t. contexts_in t.made t.kept t.places.items };
@@ -150,14 +150,14 @@ impl Tree {
         };
         let jump = jump_of(&self.kept, above, protected);
         let number = self.made;
-        let key = self.kept.insert_reserved(Kept {
+        let key = self.kept.insert_reserved(KeptContext {
             number,
             parent: above,
             protected,
             reason: None,
             jump,
         });
-        self.places.push_back_reserved(Place { number, key });
+        self.places.push_back_reserved(ContextKey { number, key });
         self.made += 1;
         Ok(number)
     }

@@ -7,7 +7,7 @@
 
 mod keeping;
 mod notes;
-mod place;
+mod line_column;
 mod program;
 
 pub use program::run_words;

@@ -4,7 +4,7 @@ ghost use Rattle.std.specs.Prelude.{◌≤◌, length};
 #[cfg(test)]
 mod tests;
 
-use crate::place::{Span, line_around, place_after, shown_part};
+use crate::line_column::{Span, line_around, place_after, shown_part};
 use eio_value::NoMemory;
 use std::alloc::Global;
 use std::io::Eprint;

@@ -23,7 +23,7 @@ use Rattle.spec_machine.specs.Steps.{Step, halts}
 use Rattle.spec_machine.specs.SwitchMoves.{closed_by, closes, fails_with, with_switch_at}
 use Rattle.domain_core.specs.declared.told.Told.{Told}
 use Rattle.domain_core.specs.Answering.{MakesUnder, closes_on}
-use Rattle.domain_core.specs.Conditions.{HandlersBegin, LeavesScopes, MayClose, MayEndContext}
+use Rattle.domain_core.specs.Conditions.{HandlersBegin, LeavesScopes, KeptMayClose, MayEndContext}
 use Rattle.domain_core.specs.Keeping.{KeptDomain}
 use Rattle.domain_core.specs.Mirrors.{Mirrors}
 use Rattle.domain_core.proofs.Composing.{makes_as, makes_after}
@@ -141,7 +141,7 @@ module _ (old new : KeptDomain) (leaves : LeavesScopes old new) (n : ℕ) where
   pub handlers_still : (script : Script) → HandlersBegin script old n → HandlersBegin script new n
   handlers_still script begin = λ handler its. begin handler (subst (λ (s : Switch). Contains (handlers_of s) handler) (leaves.switches n).1 its)
 
-  pub closes_still : MayClose old n → MayClose new n
+  pub closes_still : KeptMayClose old n → KeptMayClose new n
   closes_still may = record {
     opened = subst (λ (m : ℕ). n < m) (sym leaves.opened) may.opened;
     unfinished = ap (λ (s : Switch). s.finished) (leaves.switches n).1 ∙ may.unfinished;

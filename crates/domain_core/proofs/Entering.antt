@@ -6,7 +6,7 @@ use Rattle.eio_value.specs.declared.value.Value.{Value}
 use Rattle.script_code.specs.Standing.{block_at}
 use Rattle.script_forms.specs.declared.node.Node.{Node}
 use Rattle.fiber_step.specs.declared.ask.Ask.{Ask}
-use Rattle.fiber_step.specs.Kept.{position_of}
+use Rattle.fiber_step.specs.Framing.{position_of}
 use Rattle.fiber_step.specs.Placing.{ArePlaced}
 use Rattle.fiber_step.specs.Standing.{ask_of}
 use Rattle.spec_fiber.specs.Replies.{Position, entered, handled}

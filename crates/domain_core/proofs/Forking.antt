@@ -24,7 +24,7 @@ use Rattle.domain_core.specs.Keeping.{KeptDomain}
 use Rattle.domain_core.specs.Mirrors.{Mirrors}
 use Rattle.domain_core.proofs.Composing.{makes_as}
 use Rattle.domain_core.proofs.Counting.{same_live}
-use Rattle.domain_core.proofs.Scoping.{answers_alike, live_there}
+use Rattle.domain_core.proofs.Scoping.{answers_alike, lives_in_definition}
 
 -- ## What is refused
 
@@ -52,7 +52,7 @@ module _ (nodes : List Node) (texts : List (List ℕ)) (kept : KeptDomain) (l : 
       let s : Switch = switch_at kept.switches n in
       let unfinished : s.finished ≡ false = unfinished_by s.finished s.running takes in
       let lives : is_live kept.contexts.made s.context ≡ true = live n (opened_below kept.switches n unfinished) unfinished in
-      sym ((answers_alike nodes texts kept l mirrors).off s.context (live_there nodes texts kept l mirrors s.context lives)))
+      sym ((answers_alike nodes texts kept l mirrors).off s.context (lives_in_definition nodes texts kept l mirrors s.context lives)))
 
   -- what is kept refuses forks where the domain does
   pub refuses_alike : refuses_forks l.contexts (switch_at l.switches n) ≡ refuses_forks kept.contexts.made (switch_at kept.switches n)

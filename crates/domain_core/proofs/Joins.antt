@@ -13,7 +13,7 @@ use Rattle.spec_machine.specs.GroupMoves.{joined_by, own_ended}
 use Rattle.spec_machine.specs.Moves.{own_call}
 use Rattle.domain_core.specs.declared.told.Told.{Told}
 use Rattle.domain_core.specs.Answering.{BecomesUnder, MakesUnder}
-use Rattle.domain_core.specs.Conditions.{HasRoomForParked, LeavesGroups, MayEndContext, MayJoin}
+use Rattle.domain_core.specs.Conditions.{HasRoomForParked, LeavesGroups, MayEndContext, KeptMayJoin}
 use Rattle.domain_core.specs.Keeping.{KeptDomain}
 use Rattle.domain_core.specs.Mirrors.{Mirrors}
 use Rattle.domain_core.proofs.Composing.{makes_as, makes_after}
@@ -52,7 +52,7 @@ module _ (old given : KeptDomain) (leaves : LeavesGroups old given) where
     | inr woken ↦ subst (λ (m : ℕ). m < 1024) (sym woken.2) (parked woken.0 woken.1)
   ]
 
-  pub may_leave : (n : ℕ) (own : Option Outcome) (g : ℕ) (step : JoinStep) (context : ℕ) (gathered : List Group) → MayJoin old n own
+  pub may_leave : (n : ℕ) (own : Option Outcome) (g : ℕ) (step : JoinStep) (context : ℕ) (gathered : List Group) → KeptMayJoin old n own
       → (group_at given.groups n).left ≡ (group_at old.groups n).left - own_branches (is_some own)
       → (step ≡ Wait → ⊥) → step ≡ (join g (group_at given.groups n)).step → context ≡ (group_at given.groups n).context
       → MayEndContext (record given { groups = gathered }) context

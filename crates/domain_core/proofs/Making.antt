@@ -8,7 +8,7 @@ use Rattle.eio_value.specs.declared.value.Value.TheVariants as value
 use Rattle.spec_parts.specs.Switches.{Switch, switch_at, with_switch, attach}
 use Rattle.script_code.specs.Standing.{block_at}
 use Rattle.spec_fiber.specs.Replies.{Position, begun}
-use Rattle.fiber_step.specs.Kept.{Kept, position_of}
+use Rattle.fiber_step.specs.Framing.{KeptFrames, position_of}
 use Rattle.fiber_step.specs.Placing.{ArePlaced}
 use Rattle.domain_strikes.proofs.Waiting.Alike.{domains_in_step}
 use Rattle.domain_core.specs.Answering.{forks}
@@ -44,7 +44,7 @@ older_awake old new f g is awake = record {
 }
 
 -- and so is the new one
-pub new_awake : (older : List (Option KeptFiber)) (new : KeptDomain) (n g context : ℕ) (role : model.Role) (frames : Kept)
+pub new_awake : (older : List (Option KeptFiber)) (new : KeptDomain) (n g context : ℕ) (role : model.Role) (frames : KeptFrames)
     → new.fibers ≡ older ++ Some (new_fiber n context role frames) ∷ [] → g ≡ length older → IsAwake new g
 new_awake older new n g context role frames is number = record {
   fiber = new_fiber n context role frames;
@@ -109,7 +109,7 @@ module _ (nodes : List Node) (texts : List (List ℕ)) (kept : KeptDomain) (l : 
     }
 
   -- with these frames before a block, with the variables of a fiber that is kept
-  module _ (maker : ℕ) (by : KeptFiber) (there : kept_at kept.fibers maker ≡ Some by) (body : ℕ) (frames : Kept)
+  module _ (maker : ℕ) (by : KeptFiber) (there : kept_at kept.fibers maker ≡ Some by) (body : ℕ) (frames : KeptFrames)
       (position : position_of nodes frames ≡ begun (block_at nodes body) by.frames.variables) (are_placed : ArePlaced nodes frames.items)
       (role : model.Role) (context its_context : ℕ) (is_context : its_context ≡ context) where
     abbrev its_position : Position
@@ -141,7 +141,7 @@ module _ (nodes : List Node) (texts : List (List ℕ)) (kept : KeptDomain) (l : 
 
 -- a new fiber of a switch
 module _ (nodes : List Node) (texts : List (List ℕ)) (kept : KeptDomain) (l : DomainState) (mirrors : Mirrors nodes texts kept l)
-    (maker n body new context : ℕ) (daemon : Bool) (by : KeptFiber) (there : kept_at kept.fibers maker ≡ Some by) (frames : Kept)
+    (maker n body new context : ℕ) (daemon : Bool) (by : KeptFiber) (there : kept_at kept.fibers maker ≡ Some by) (frames : KeptFrames)
     (number : new ≡ length kept.fibers)
     (is_context : context ≡ (switch_at kept.switches n).context)
     (position : position_of nodes frames ≡ begun (block_at nodes body) by.frames.variables)

@@ -96,12 +96,12 @@ module _ {nodes : List Node} {texts : List (List ℕ)} {l : DomainState} {g : �
   pub alike : AnswersAlike (contexts_of (at_call l g others at.calls.settled)) kept.contexts
   alike = contexts_in_step.alike kept.contexts (contexts_of (at_call l g others at.calls.settled)) at.mirrors.contexts
 
-  pub live_there : (c : ℕ) → is_live l.contexts c ≡ true → is_live kept.contexts.made c ≡ true
-  live_there c lives = alike.live c ∙ lives
+  pub lives_kept : (c : ℕ) → is_live l.contexts c ≡ true → is_live kept.contexts.made c ≡ true
+  lives_kept c lives = alike.live c ∙ lives
 
   pub live : RunsInLive kept g
   live f there =
-      live_there f.context (subst (λ (c : ℕ). is_live l.contexts c ≡ true) (sym (same_context g) ∙ (stands_for g f there).context) at.calls.live)
+      lives_kept f.context (subst (λ (c : ℕ). is_live l.contexts c ≡ true) (sym (same_context g) ∙ (stands_for g f there).context) at.calls.live)
 
   -- ## How many there are
 

@@ -28,9 +28,9 @@ use Rattle.domain_strikes.proofs.Waiting.Alike.{contexts_in_step}
 use Rattle.domain_strikes.proofs.Waiting.Listed.{by_standing}
 use Rattle.cancel_tree.specs.Waits.{waits, waits_in}
 use Rattle.spec_machine.specs.Steps.{waiting_from}
-use Rattle.domain_core.specs.Conditions.{HandlersBegin, HasLiveContexts, IsAttachedToNone, MayClose, MayEnd, MayEndAs, MayEndContext, MayJoin}
+use Rattle.domain_core.specs.Conditions.{HandlersBegin, HasLiveContexts, IsAttachedToNone, KeptMayClose, MayEnd, MayEndAs, MayEndContext, KeptMayJoin}
 use Rattle.domain_core.specs.Keeping.{KeptDomain}
-use Rattle.domain_core.proofs.MeetingCounts.{IsAtCall, at_call, alike, live_there, same_count, same_groups, same_switches, same_context, same_ended, same_role, stands_for, stands_ready}
+use Rattle.domain_core.proofs.MeetingCounts.{IsAtCall, at_call, alike, lives_kept, same_count, same_groups, same_switches, same_context, same_ended, same_role, stands_for, stands_ready}
 
 -- who is ready waits for nothing
 ready_waits_not : (fiber : Fiber) (next : Next) → fiber.standing ≡ Ready next → can_be_struck fiber ≡ false
@@ -51,7 +51,7 @@ module _ {nodes : List Node} {texts : List (List ℕ)} {l : DomainState} {g : �
       let it : forgetting.MayEnd c kept.contexts =
       (contexts_in_step.meets kept.contexts (contexts_of (at_call l g others at.calls.settled)) (End c) at.mirrors.contexts).1
       (record { childless = alone.childless; idle = nobody_waits c alone }) in
-      record { live = live_there at c lives; childless = it.childless; idle = it.idle })
+      record { live = lives_kept at c lives; childless = it.childless; idle = it.idle })
 
   -- the fiber that calls doesn't wait, and there is room for it among those that do
   pub waits_not : waits g kept.contexts.waiting ≡ false
@@ -79,7 +79,7 @@ module _ {nodes : List Node} {texts : List (List ℕ)} {l : DomainState} {g : �
 
   pub live_contexts : HasLiveContexts kept
   live_contexts n below is =
-      live_there at (switch_at kept.switches n).context
+      lives_kept at (switch_at kept.switches n).context
       (subst (λ (s : Switch). is_live l.contexts s.context ≡ true) (same_switch n)
       (sound_switches.live n (ap (λ (s : Switch). s.finished) (same_switch n) ∙ is)))
 
@@ -89,7 +89,7 @@ module _ {nodes : List Node} {texts : List (List ℕ)} {l : DomainState} {g : �
     by_side (inl it) = sound_switches.nobody_new n false (subst (λ (m : ℕ). Contains (switch_at l.switches n).fibers m) (same_count at) it)
     by_side (inr it) = sound_switches.nobody_new n true (subst (λ (m : ℕ). Contains (switch_at l.switches n).daemons m) (same_count at) it)
 
-  pub may_close : (n : ℕ) → laws.MayClose l g n → MayClose kept n
+  pub may_close : (n : ℕ) → laws.MayClose l g n → KeptMayClose kept n
   may_close n it = record {
     opened = (let made : n < length l.switches = it.made in omega (arith, made, same_switches at));
     unfinished = ap (λ (s : Switch). s.finished) (sym (same_switch n)) ∙ it.unfinished;
@@ -110,7 +110,7 @@ module _ {nodes : List Node} {texts : List (List ℕ)} {l : DomainState} {g : �
   same_group : (n : ℕ) → group_at l.groups n ≡ group_at kept.groups n
   same_group n = ap (λ (xs : List Group). group_at xs n) at.mirrors.groups
 
-  pub may_join : (n : ℕ) (own : Option Outcome) → laws.MayJoin l g n (is_some own) → MayJoin kept n own
+  pub may_join : (n : ℕ) (own : Option Outcome) → laws.MayJoin l g n (is_some own) → KeptMayJoin kept n own
   may_join n own it = record {
     made = (let made : n < length l.groups = it.made in omega (arith, made, same_groups at));
     some_left = subst (λ (x : Group). own_branches (is_some own) ≤ x.left) (same_group n) it.some_left;

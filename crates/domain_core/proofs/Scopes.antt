@@ -30,8 +30,8 @@ use Rattle.domain_core.proofs.Mirroring.{switches_mirrors}
 -- ## What is found
 
 module _ (nodes : List Node) (texts : List (List ℕ)) (kept : KeptDomain) (l : DomainState) (mirrors : Mirrors nodes texts kept l) where
-  pub live_there : (c : ℕ) → is_live l.contexts c ≡ is_live kept.contexts.made c
-  live_there c = sym ((contexts_in_step.alike kept.contexts (contexts_of l) mirrors.contexts).live c)
+  pub live_alike : (c : ℕ) → is_live l.contexts c ≡ is_live kept.contexts.made c
+  live_alike c = sym ((contexts_in_step.alike kept.contexts (contexts_of l) mirrors.contexts).live c)
 
   pub finished_there : (n : ℕ) → (switch_at l.switches n).finished ≡ (switch_at kept.switches n).finished
   finished_there n = ap (λ (xs : List Switch). (switch_at xs n).finished) mirrors.switches

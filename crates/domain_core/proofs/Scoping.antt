@@ -43,37 +43,37 @@ module _ (nodes : List Node) (texts : List (List ℕ)) (kept : KeptDomain) (l : 
   context_there : (g : ℕ) (f : KeptFiber) → kept_at kept.fibers g ≡ Some f → (fiber_at l.fibers g).context ≡ f.context
   context_there g f there = (is_fiber nodes texts kept l g f there mirrors).context
 
-  pub live_there : (c : ℕ) → is_live kept.contexts.made c ≡ true → is_live l.contexts c ≡ true
-  live_there c live = sym (answers_alike.live c) ∙ live
+  pub lives_in_definition : (c : ℕ) → is_live kept.contexts.made c ≡ true → is_live l.contexts c ≡ true
+  lives_in_definition c live = sym (answers_alike.live c) ∙ live
 
   -- the context of a fiber is off by the same reason
   pub off_there : (g : ℕ) (f : KeptFiber) → kept_at kept.fibers g ≡ Some f → is_live kept.contexts.made f.context ≡ true → off kept.contexts.made f.context ≡ off_for l g
-  off_there g f there live = answers_alike.off f.context (live_there f.context live) ∙ ap (off l.contexts) (sym (context_there g f there))
+  off_there g f there live = answers_alike.off f.context (lives_in_definition f.context live) ∙ ap (off l.contexts) (sym (context_there g f there))
 
   -- a new one has the same number, and is there on both sides
   module _ (g : ℕ) (f : KeptFiber) (there : kept_at kept.fibers g ≡ Some f) (live : is_live kept.contexts.made f.context ≡ true) where
     pub sub_number : (sub f.context kept.contexts.made).number ≡ (sub_of l g).number
     sub_number = (
-        let it = calls_in_step.subs kept.contexts l f.context mirrors.contexts (live_there f.context live) in
+        let it = calls_in_step.subs kept.contexts l f.context mirrors.contexts (lives_in_definition f.context live) in
         it.0 ∙ ap (λ (c : ℕ). (sub c l.contexts).number) (sym (context_there g f there)))
 
     pub sub_mirrors : (contexts : Contexts) → contexts ≡ called (Sub f.context) kept.contexts
         → Mirrors nodes texts (record kept { contexts = contexts }) (record l { contexts = (sub_of l g).contexts })
     sub_mirrors contexts are = (
-        let it = calls_in_step.subs kept.contexts l f.context mirrors.contexts (live_there f.context live) in
+        let it = calls_in_step.subs kept.contexts l f.context mirrors.contexts (lives_in_definition f.context live) in
         subst (λ (xs : Contexts). Mirrors nodes texts (record kept { contexts = xs }) (record l { contexts = (sub_of l g).contexts })) (sym are)
         (subst (λ (c : ℕ). Mirrors nodes texts (record kept { contexts = called (Sub f.context) kept.contexts }) (record l { contexts = (sub c l.contexts).contexts })) (sym (context_there g f there))
         (contexts_mirrors nodes texts kept l mirrors (called (Sub f.context) kept.contexts) (sub f.context l.contexts).contexts it.1)))
 
     pub protected_number : (protect f.context kept.contexts.made).number ≡ (protected_of l g).number
     protected_number = (
-        let it = calls_in_step.protects kept.contexts l f.context mirrors.contexts (live_there f.context live) in
+        let it = calls_in_step.protects kept.contexts l f.context mirrors.contexts (lives_in_definition f.context live) in
         it.0 ∙ ap (λ (c : ℕ). (protect c l.contexts).number) (sym (context_there g f there)))
 
     pub protected_mirrors : (contexts : Contexts) → contexts ≡ called (Protect f.context) kept.contexts
         → Mirrors nodes texts (record kept { contexts = contexts }) (record l { contexts = (protected_of l g).contexts })
     protected_mirrors contexts are = (
-        let it = calls_in_step.protects kept.contexts l f.context mirrors.contexts (live_there f.context live) in
+        let it = calls_in_step.protects kept.contexts l f.context mirrors.contexts (lives_in_definition f.context live) in
         subst (λ (xs : Contexts). Mirrors nodes texts (record kept { contexts = xs }) (record l { contexts = (protected_of l g).contexts })) (sym are)
         (subst (λ (c : ℕ). Mirrors nodes texts (record kept { contexts = called (Protect f.context) kept.contexts }) (record l { contexts = (protect c l.contexts).contexts })) (sym (context_there g f there))
         (contexts_mirrors nodes texts kept l mirrors (called (Protect f.context) kept.contexts) (protect f.context l.contexts).contexts it.1)))
@@ -94,7 +94,7 @@ module _ (nodes : List Node) (texts : List (List ℕ)) (kept : KeptDomain) (l : 
       contexts_mirrors nodes texts kept l mirrors (left_by_end c kept.contexts) (end c l.contexts) gone.1)
 
   pub same_parent : (c : ℕ) → is_live kept.contexts.made c ≡ true → (context_at kept.contexts.made c).parent ≡ (context_at l.contexts c).parent
-  same_parent c live = ap (λ (x : Context). x.parent) (answers_alike.stand c (live_there c live))
+  same_parent c live = ap (λ (x : Context). x.parent) (answers_alike.stand c (lives_in_definition c live))
 
   -- and the fiber runs again in the one above it
   pub leaves_mirrors : (g c : ℕ) → IsAwake kept g → MayEndContext kept c

@@ -7,7 +7,7 @@ use Rattle.std.proofs.lemmas.List.Sums.{sum_by-cons}
 use Rattle.slab.specs.Slab.{Slab, get, slab_len, with_value, Updates}
 use Rattle.eio_value.specs.declared.raised.Outcome.TheVariants as outcome
 use Rattle.eio_value.specs.declared.raised.Raised.{Raised}
-use Rattle.fiber_step.specs.Kept.{Kept}
+use Rattle.fiber_step.specs.Framing.{KeptFrames}
 use Rattle.spec_machine.specs.Domain as model
 use Rattle.domain_core.specs.declared.fiber.Fiber.{Fiber}
 use Rattle.domain_core.specs.declared.standing.Next.TheVariants as next
@@ -192,7 +192,7 @@ module _ (keys : List (Option ℕ)) (kept : Slab Fiber) (thrown : Slab Raised) w
       stayed_seen = replaced_seen fiber number thrown (λ m k other is. refl) its_own_there its_own_alone
 
     -- it has other frames
-    module _ (frames : Kept) where
+    module _ (frames : KeptFrames) where
       abbrev pub reframed : Reframes n (fibers_in keys kept thrown) (fibers_in keys (with_value kept key (record was { frames = frames })) thrown)
       reframed = record {
         fiber = fiber_of (raised_in thrown) was;

@@ -5,7 +5,7 @@ use Rattle.std.specs.Option.{unwrap_or}
 use Rattle.spec_parts.specs.ContextCalls.{Contexts, Root, no_contexts, called}
 use Rattle.spec_parts.specs.Groups.{Group}
 use Rattle.spec_parts.specs.Switches.{Switch}
-use Rattle.fiber_step.specs.Kept.{Kept, position_of}
+use Rattle.fiber_step.specs.Framing.{KeptFrames, position_of}
 use Rattle.fiber_step.specs.Placing.{ArePlaced}
 use Rattle.script_forms.specs.Flat.{nodes_of}
 use Rattle.script_code.specs.Standing.{block_at}
@@ -53,7 +53,7 @@ started number budget mocked it = record {
 }
 
 -- with a body that runs these frames
-abbrev pub beginning : (number : ℕ) → Kept → Beginning
+abbrev pub beginning : (number : ℕ) → KeptFrames → Beginning
 beginning number frames = record {
   fibers = Some (new_fiber 0 0 OfBody frames) ∷ [];
   ready = 0 ∷ [];
@@ -64,7 +64,7 @@ beginning number frames = record {
   serial = number * 2 ^ 56;
 }
 
-pub beginning_is : (number : ℕ) (frames : Kept) (fibers : List (Option KeptFiber)) (ready : List ℕ) (owed : List Duty) (contexts : Contexts) (switches : List Switch) (groups : List Group) (serial : ℕ)
+pub beginning_is : (number : ℕ) (frames : KeptFrames) (fibers : List (Option KeptFiber)) (ready : List ℕ) (owed : List Duty) (contexts : Contexts) (switches : List Switch) (groups : List Group) (serial : ℕ)
     → fibers ≡ Some (new_fiber 0 0 OfBody frames) ∷ [] → ready ≡ 0 ∷ [] → owed ≡ [] → contexts ≡ called Root no_contexts → switches ≡ [] → groups ≡ [] → serial ≡ number * 2 ^ 56
     → record { fibers = fibers; ready = ready; owed = owed; contexts = contexts; switches = switches; groups = groups; serial = serial } ≡ beginning number frames
 beginning_is number frames fibers ready owed contexts switches groups serial are_fibers are_ready are_owed are_contexts are_switches are_groups is_serial = (
@@ -75,7 +75,7 @@ beginning_is number frames fibers ready owed contexts switches groups serial are
     ∙ (ap₂ (λ s g. at (Some (new_fiber 0 0 OfBody frames) ∷ []) (0 ∷ []) [] (called Root no_contexts) s g serial) are_switches are_groups
     ∙ ap (λ n. at (Some (new_fiber 0 0 OfBody frames) ∷ []) (0 ∷ []) [] (called Root no_contexts) [] [] n) is_serial)))
 
-module _ (nodes : List Node) (texts : List (List ℕ)) (number : ℕ) (block : Block) (frames : Kept) (position : position_of nodes frames ≡ begun block []) (placed : ArePlaced nodes frames.items)
+module _ (nodes : List Node) (texts : List (List ℕ)) (number : ℕ) (block : Block) (frames : KeptFrames) (position : position_of nodes frames ≡ begun block []) (placed : ArePlaced nodes frames.items)
     (budget : ℕ) (mocked : Bool) where
   each : (g : ℕ) → IsKept nodes g (kept_at (Some (new_fiber 0 0 OfBody frames) ∷ []) g) (fiber_at (opening_domain number texts block).fibers g)
   each zero = record {
@@ -109,7 +109,7 @@ module _ (nodes : List Node) (texts : List (List ℕ)) (number : ℕ) (block : B
   }
 
 module _ (script : Script) (runnable : IsRunnable script) (body : ℕ) (below : body < length script.bodies) (budget : ℕ) (mocked : Bool)
-    (frames : Kept) (position : position_of (nodes_of script) frames ≡ begun (body_of script body) []) (placed : ArePlaced (nodes_of script) frames.items) where
+    (frames : KeptFrames) (position : position_of (nodes_of script) frames ≡ begun (body_of script body) []) (placed : ArePlaced (nodes_of script) frames.items) where
   pub starts : (it : Beginning) → it ≡ beginning body frames → Starts script body budget mocked (started body budget mocked it)
   starts it same =
       subst (λ (b : Beginning). Starts script body budget mocked (started body budget mocked b)) (sym same)

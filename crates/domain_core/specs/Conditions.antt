@@ -63,7 +63,7 @@ abbrev pub IsAttachedToNone : KeptDomain → (fiber : ℕ) → Type 0
 IsAttachedToNone kept g = (n : ℕ) → ¬ IsAttached g (switch_at kept.switches n)
 
 -- a switch that a fiber may close: its context may end once nobody is attached
-pub record MayClose (kept : KeptDomain) (switch : ℕ) : Type 0 where
+pub record KeptMayClose (kept : KeptDomain) (switch : ℕ) : Type 0 where
   pub opened : switch < length kept.switches
   pub unfinished : (switch_at kept.switches switch).finished ≡ false
   pub ends : ((daemon : Bool) → attached_to daemon (switch_at kept.switches switch) ≡ []) → MayEndContext kept (switch_at kept.switches switch).context
@@ -105,7 +105,7 @@ pub record LeavesGroups (old new : KeptDomain) : Type 0 where
   pub contexts : (n : ℕ) → (group_at new.groups n).context ≡ (group_at old.groups n).context
 
 -- a group that a fiber may join, whose own branch is about to end if one came: the group's context may end once no other branch is left
-pub record MayJoin (kept : KeptDomain) (group : ℕ) (own : Option Outcome) : Type 0 where
+pub record KeptMayJoin (kept : KeptDomain) (group : ℕ) (own : Option Outcome) : Type 0 where
   pub made : group < length kept.groups
   pub some_left : own_branches (is_some own) ≤ (group_at kept.groups group).left
   pub ends : (group_at kept.groups group).left ≡ own_branches (is_some own) → MayEndContext kept (group_at kept.groups group).context

@@ -7,7 +7,7 @@ use Rattle.spec_parts.specs.ContextCalls.{Contexts}
 use Rattle.spec_parts.specs.Groups.{Group}
 use Rattle.spec_parts.specs.Switches.{Switch}
 use Rattle.eio_value.specs.declared.value.Value.TheVariants.{Unit}
-use Rattle.fiber_step.specs.Kept.{Kept}
+use Rattle.fiber_step.specs.Framing.{KeptFrames}
 use Rattle.spec_machine.specs.Domain.{Duty, Role, Standing, Ready, GoesOn}
 
 -- a fiber that hasn't ended
@@ -16,7 +16,7 @@ pub record KeptFiber : Type 0 where
   pub context : ℕ
   pub role : Role
   pub standing : Standing
-  pub frames : Kept
+  pub frames : KeptFrames
 
 pub record KeptDomain : Type 0 where
   pub number : ℕ
@@ -43,7 +43,7 @@ abbrev pub kept_at : {X : Type 0} → List (Option X) → (number : ℕ) → Opt
 kept_at fibers number = unwrap_or (slice_get fibers number) None
 
 -- a new fiber, which is ready to run its frames
-abbrev pub new_fiber : (number context : ℕ) → Role → Kept → KeptFiber
+abbrev pub new_fiber : (number context : ℕ) → Role → KeptFrames → KeptFiber
 new_fiber number context role frames = record { number = number; context = context; role = role; standing = Ready (GoesOn (outcome.Ok Unit)); frames = frames }
 
 -- something of a fiber is changed

@@ -3,7 +3,7 @@
 -- what no built form uses: resume words, the clock and timers.
 use Rattle.std.specs.Prelude.{◌≡◌, ℕ, List, length, true, false, Option, Some, None}
 use Rattle.script_forms.specs.declared.node.Node.{Node}
-use Rattle.fiber_step.specs.Kept.{position_of}
+use Rattle.fiber_step.specs.Framing.{position_of}
 use Rattle.fiber_step.specs.Placing.{ArePlaced}
 use Rattle.spec_machine.specs.Domain as model
 use Rattle.spec_machine.specs.Domain.{DomainState, fiber_at, has_ended}

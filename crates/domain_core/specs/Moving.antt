@@ -19,7 +19,7 @@ use Rattle.spec_machine.specs.Moves.{asks, own_move}
 use Rattle.spec_machine.specs.Preparing.{Calls, next_call, next_of, prepared}
 use Rattle.domain_core.specs.declared.told.Told.{Told}
 use Rattle.domain_core.specs.Answering.{HoldsOf, Tells, forking_by}
-use Rattle.domain_core.specs.Conditions.{HandlersBegin, HasLiveContexts, HasRoomForParked, IsAttachedToNone, IsAwake, MayClose, MayEnd, MayEndContext, MayJoin, RunsInLive}
+use Rattle.domain_core.specs.Conditions.{HandlersBegin, HasLiveContexts, HasRoomForParked, IsAttachedToNone, IsAwake, KeptMayClose, MayEnd, MayEndContext, KeptMayJoin, RunsInLive}
 use Rattle.domain_core.specs.Keeping.{KeptDomain, KeptFiber, kept_at}
 use Rattle.domain_core.specs.Mirrors.{Mirrors}
 use Rattle.domain_core.specs.Stepping.{IsPlacedAt}
@@ -87,8 +87,8 @@ IsMetBy script g (ask.Fail switch text) kept = switch < length kept.switches
 IsMetBy script g (ask.OnRelease switch handler) kept = switch < length kept.switches
 IsMetBy script g (ask.Branches group form) kept = Unit {0}
 IsMetBy script g (ask.Leave context late it) kept = MayEndContext kept context
-IsMetBy script g (ask.Close switch failed it) kept = MayClose kept switch × HandlersBegin script kept switch
-IsMetBy script g (ask.Join group own) kept = MayJoin kept group own
+IsMetBy script g (ask.Close switch failed it) kept = KeptMayClose kept switch × HandlersBegin script kept switch
+IsMetBy script g (ask.Join group own) kept = KeptMayJoin kept group own
 IsMetBy script g (ask.End it) kept = MayEnd kept g
 IsMetBy script g call kept = ⊥
 

@@ -6,7 +6,7 @@ use Rattle.script_code.specs.Standing.{block_at}
 use Rattle.script_forms.specs.declared.node.Node.{Node}
 use Rattle.spec_fiber.specs.Replies.{entered, handled}
 use Rattle.fiber_step.specs.declared.ask.Ask.{Ask}
-use Rattle.fiber_step.specs.Kept.{Kept, position_of}
+use Rattle.fiber_step.specs.Framing.{KeptFrames, position_of}
 use Rattle.fiber_step.specs.Placing.{ArePlaced}
 use Rattle.fiber_step.specs.Settling.{SettlesTo}
 use Rattle.fiber_step.specs.Standing.{ask_of}
@@ -22,7 +22,7 @@ IsPlacedAt nodes number fibers = (fiber : KeptFiber) → kept_at fibers number �
 pub record Reframes (number : ℕ) (old new : List (Option KeptFiber)) : Type 0 where
   pub fiber : KeptFiber
   pub there : kept_at old number ≡ Some fiber
-  pub frames : Kept
+  pub frames : KeptFrames
   pub is : new ≡ changed_at number (λ it. record it { frames = frames }) old
 
 -- it stands before the block of its call

@@ -37,7 +37,7 @@ impl Domain {
     }
 
     /// `yield`.
-    pub(crate) fn give_way(&mut self, fiber: u32, told: &mut Told)
+    pub(crate) fn yield_now(&mut self, fiber: u32, told: &mut Told)
         requires awake { IsAwake self.old fiber }
         requires room { length self.old.ready < 1024 }
         ensures answers { (script : Read) → Answers script Ask.Yield fiber self.old told.new self.new }

@@ -11,7 +11,7 @@ ghost use Rattle.script_forms.specs.Flat.{nodes_of};
 ghost use Rattle.spec_fiber.specs.Asks as asks;
 ghost use Rattle.domain_strikes.specs.Owing.{StrikesAtOnce};
 ghost use Rattle.domain_core.specs.Answering.{Answers, MakesUnder, SameCounts, closes_on};
-ghost use Rattle.domain_core.specs.Conditions.{HandlersBegin, IsAwake, MayClose, RunsInLive};
+ghost use Rattle.domain_core.specs.Conditions.{HandlersBegin, IsAwake, KeptMayClose, RunsInLive};
 ghost use Rattle.domain_core.specs.Stepping.{IsPlacedAt};
 
 use crate::domain::Domain;
@@ -43,7 +43,7 @@ impl Domain {
         requires room { length self.old.ready < 1024 }
         requires live { RunsInLive self.old fiber }
         requires owes { self.old.owed ≡ [] }
-        requires may { MayClose self.old switch }
+        requires may { KeptMayClose self.old switch }
         requires handlers { HandlersBegin script.now self.old switch }
         requires placed { IsPlacedAt (nodes_of script.now) fiber self.old.fibers }
         requires few { length self.old.contexts.made < 2 ^ 32 - 1 }
@@ -71,7 +71,7 @@ impl Domain {
         requires room { length self.old.ready < 1024 }
         requires live { RunsInLive self.old fiber }
         requires once { StrikesAtOnce self.old.owed self.old.contexts (switch_at self.old.switches switch).context }
-        requires may { MayClose self.old switch }
+        requires may { KeptMayClose self.old switch }
         requires handlers { HandlersBegin script.now self.old switch }
         requires placed { IsPlacedAt (nodes_of script.now) fiber self.old.fibers }
         requires few { length self.old.contexts.made < 2 ^ 32 - 1 }

@@ -18,7 +18,7 @@ ghost use Rattle.script_forms.specs.declared.node.Node.{Node as Begun};
 ghost use Rattle.spec_script.specs.Scripts.{Script as Read};
 ghost use Rattle.spec_fiber.specs.Replies.{begun};
 ghost use Rattle.domain_core.specs.Answering.{Answers, Becomes, BecomesUnder, SameCounts, SameFibers, gathers, heads_with};
-ghost use Rattle.domain_core.specs.Conditions.{HasRoomForParked, IsAwake, LeavesGroups, MayEndContext, MayJoin, RunsInLive};
+ghost use Rattle.domain_core.specs.Conditions.{HasRoomForParked, IsAwake, LeavesGroups, MayEndContext, KeptMayJoin, RunsInLive};
 ghost use Rattle.domain_core.specs.Keeping.{KeptFiber};
 ghost use Rattle.domain_core.specs.Stepping.{IsPlacedAt};
 
@@ -220,7 +220,7 @@ impl Domain {
         requires room { length self.old.ready < 1024 }
         requires parked { HasRoomForParked self.old }
         requires owes { self.old.owed ≡ [] }
-        requires may { MayJoin self.old group own }
+        requires may { KeptMayJoin self.old group own }
         ensures answers { OnOk result ((script : Read) → Answers script (Ask.Join group own) fiber self.old told.new self.new) }
         ensures same { OnOk result (SameCounts self.old self.new) }
     {

@@ -20,7 +20,7 @@ use eio_value::{Misuse, NoMemory, Plain, Raised, TextId, Value};
 use fiber_step::{Ask, Fiber as Frames, Variables};
 use script_code::Script;
 use script_forms::Forking;
-use switch_core::{Handler, Variables as Registered};
+use switch_core::{Handler, HandlerVariables};
 use trace_lines::{Did, Said2};
 
 impl Domain {
@@ -246,7 +246,7 @@ impl Domain {
         let values = variables.as_slice().to_vec(self.alloc)?;
         let handler = Handler {
             node: handler,
-            env: Registered::new(values),
+            env: HandlerVariables::new(values),
         };
         match self.switches.on_release(switch, handler) {
             Ok(()) => Ok(()),

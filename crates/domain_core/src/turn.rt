@@ -126,7 +126,7 @@ impl Domain {
                 Ok(())
             }
             Ask::Yield => {
-                self.give_way(fiber, told);
+                self.yield_now(fiber, told);
                 Ok(())
             }
             Ask::Check => self.check(fiber, told),

@@ -3,7 +3,7 @@ use Rattle.std.proofs.Common.{◌≡◌, ℕ, ◌+◌, ◌-◌, ◌≤◌, List,
 use Rattle.std.proofs.lemmas.List.{length-take}
 use Rattle.std.proofs.Math.Seq.{take-append-add}
 use Rattle.fiber_step.specs.Drafting.{Drafted}
-use Rattle.fiber_step.specs.Kept.{Kept}
+use Rattle.fiber_step.specs.Framing.{KeptFrames}
 
 -- the first of those that are left and of those that came since
 pub take_since : {A : Type 0} (kept since : List A) (left keep : ℕ) → left ≤ length kept → left ≤ keep → take left kept ++ take (keep - left) since ≡ take keep (take left kept ++ since)
@@ -13,6 +13,6 @@ take_since kept since left keep within more =
     sym (ap (λ n. take n (take left kept ++ since)) (sym sum) ∙ take-append-add (take left kept) since (keep - left))
 
 -- a draft by its parts
-pub drafted_is : (d : Drafted) (fiber now : Kept) → d.fiber ≡ fiber → d.now ≡ now → (let it : Drafted = record { fiber = fiber; now = now } in d ≡ it)
+pub drafted_is : (d : Drafted) (fiber now : KeptFrames) → d.fiber ≡ fiber → d.now ≡ now → (let it : Drafted = record { fiber = fiber; now = now } in d ≡ it)
 drafted_is d fiber now same_fiber same_now =
     ap (λ x. let it : Drafted = record { fiber = x; now = d.now } in it) same_fiber ∙ ap (λ y. let it : Drafted = record { fiber = fiber; now = y } in it) same_now

@@ -11,7 +11,7 @@ use Rattle.spec_fiber.specs.Replies.{Position, into, entered}
 use Rattle.spec_fiber.specs.Silent.{items_of}
 use Rattle.spec_fiber.specs.Work as work
 use Rattle.fiber_step.specs.Having.{HasStatements}
-use Rattle.fiber_step.specs.Kept.{Kept, position_of}
+use Rattle.fiber_step.specs.Framing.{KeptFrames, position_of}
 use Rattle.fiber_step.specs.Placing.{IsPlaced, IsPlacedMark, ArePlaced}
 use Rattle.fiber_step.specs.Standing.{ask_of, mark_work, works_of}
 use Rattle.fiber_step.specs.Stepping.{HasBranchBodies}
@@ -27,11 +27,11 @@ use Rattle.std.proofs.lemmas.List.Elements.{All-push}
 
 -- ## Placed items
 
-pub placed_into : (nodes : List Node) (end : Mark) (body : ℕ) (old new : Kept) → new ≡ gone_into end body old → ArePlaced nodes old.items → HasStatements nodes body → IsPlacedMark nodes end → ArePlaced nodes new.items
+pub placed_into : (nodes : List Node) (end : Mark) (body : ℕ) (old new : KeptFrames) → new ≡ gone_into end body old → ArePlaced nodes old.items → HasStatements nodes body → IsPlacedMark nodes end → ArePlaced nodes new.items
 placed_into nodes end body old new e all has is =
-    subst (λ (k : Kept). ArePlaced nodes k.items) (sym e) (placed_mark nodes (mark.Run body) (old.items ++ item.Mark end ∷ []) (placed_mark nodes end old.items all is) (has, tt))
+    subst (λ (k : KeptFrames). ArePlaced nodes k.items) (sym e) (placed_mark nodes (mark.Run body) (old.items ++ item.Mark end ∷ []) (placed_mark nodes end old.items all is) (has, tt))
 
-pub placed_handling : (nodes : List Node) (closing end : Mark) (handler : ℕ) (registered : List Value) (old new : Kept) → new ≡ handling closing end handler registered old
+pub placed_handling : (nodes : List Node) (closing end : Mark) (handler : ℕ) (registered : List Value) (old new : KeptFrames) → new ≡ handling closing end handler registered old
     → ArePlaced nodes old.items → HasStatements nodes handler → IsPlacedMark nodes closing → IsPlacedMark nodes end → ArePlaced nodes new.items
 placed_handling nodes closing end handler registered old new e all has is_closing is_end =
     let first = placed_mark nodes closing old.items all is_closing in
@@ -39,7 +39,7 @@ placed_handling nodes closing end handler registered old new e all has is_closin
     placed_into nodes end handler (record { items = (old.items ++ item.Mark closing ∷ []) ++ item.Restore old.variables ∷ []; variables = registered }) new e second has is_end
 
 -- where it stands then
-pub stands_handling : (nodes : List Node) (closing end : Mark) (handler : ℕ) (registered : List Value) (old new : Kept) → new ≡ handling closing end handler registered old
+pub stands_handling : (nodes : List Node) (closing end : Mark) (handler : ℕ) (registered : List Value) (old new : KeptFrames) → new ≡ handling closing end handler registered old
     → position_of nodes new ≡ into (block_at nodes handler) (mark_work nodes end) (work.Restore old.variables ∷ mark_work nodes closing ∷ works_of nodes old.items) registered
 stands_handling nodes closing end handler registered old new e =
     let with_closing = old.items ++ item.Mark closing ∷ [] in
@@ -71,12 +71,12 @@ own_begins nodes form n group blocks after found these has at is same last =
 
 -- ## A block that is gone into
 
-stands_into : (nodes : List Node) (end : Mark) (body : ℕ) (old new : Kept) → new ≡ gone_into end body old → position_of nodes new ≡ into (block_at nodes body) (mark_work nodes end) (works_of nodes old.items) old.variables
+stands_into : (nodes : List Node) (end : Mark) (body : ℕ) (old new : KeptFrames) → new ≡ gone_into end body old → position_of nodes new ≡ into (block_at nodes body) (mark_work nodes end) (works_of nodes old.items) old.variables
 stands_into nodes end body old new e =
     ap (position_of nodes) e ∙ ap (λ these. let p : Position = record { work = these; variables = old.variables } in p) (next_two nodes old.items (item.Mark end) body)
 
 -- that of a call, with the mark that stands behind it
-pub stands_entered : (nodes : List Node) (asked call : Ask) (number : ℕ) (end : Mark) (body : ℕ) (old named new : Kept) → new ≡ gone_into end body named → asked ≡ call
+pub stands_entered : (nodes : List Node) (asked call : Ask) (number : ℕ) (end : Mark) (body : ℕ) (old named new : KeptFrames) → new ≡ gone_into end body named → asked ≡ call
     → into (block_at nodes body) (mark_work nodes end) (works_of nodes named.items) named.variables ≡ entered (ask_of nodes call) number (works_of nodes old.items) old.variables
     → position_of nodes new ≡ entered (ask_of nodes asked) number (works_of nodes old.items) old.variables
 stands_entered nodes asked call number end body old named new e is same =

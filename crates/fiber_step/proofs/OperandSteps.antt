@@ -19,7 +19,7 @@ use Rattle.fiber_step.specs.Standing.{place_of}
 use Rattle.fiber_step.specs.Stepping.{IsRaise}
 use Rattle.fiber_step.specs.declared.ask.Ask.{Ask}
 use Rattle.fiber_step.specs.declared.ask.Ask.TheVariants as ask
-use Rattle.fiber_step.specs.declared.ask.Place.{Place}
+use Rattle.fiber_step.specs.declared.ask.DirectoryRef.{DirectoryRef}
 use Rattle.fiber_step.proofs.Steps.{Knows, known_at, IsCallStep, called, raised, value_gives, value_raises}
 
 pub trace_raises : (nodes : List Node) (texts at : ℕ) (n_at : Node) (variables : List Value) (what : Plain) (count : ℕ) → Knows nodes texts at n_at → n_at ≡ (node.Trace count)
@@ -112,7 +112,7 @@ open_dir_raises nodes texts at n_at variables what directory n from_here knows e
     raised nodes at variables (syntax.OpenDir (directory_of directory) (expression_at nodes (at + 1)) (block_at nodes n)) _ what here.stands
     (λ c same. value_raises (text_of c.variables (expression_at nodes (at + 1))) what c (λ it. asks (model.OpenDirectory (place_in c.variables (directory_of directory)) it (block_at nodes n)) c) (is ∙ ap (λ those. text_of those (expression_at nodes (at + 1))) (sym same)))
 
-pub open_dir_step : (nodes : List Node) (texts at : ℕ) (n_at : Node) (variables : List Value) (call : Ask) (after : ℕ) (directory : Directory) (n from_here : ℕ) (given : TextId) (found : Place) → Knows nodes texts at n_at → n_at ≡ (node.OpenDir directory n from_here)
+pub open_dir_step : (nodes : List Node) (texts at : ℕ) (n_at : Node) (variables : List Value) (call : Ask) (after : ℕ) (directory : Directory) (n from_here : ℕ) (given : TextId) (found : DirectoryRef) → Knows nodes texts at n_at → n_at ≡ (node.OpenDir directory n from_here)
     → Is given ≡ text_of variables (expression_at nodes (at + 1)) → place_of found ≡ place_in variables (directory_of directory) → call ≡ ask.OpenDirectory found given n → after ≡ from_here → IsCallStep nodes texts at variables call after
 unfolding statement
 open_dir_step nodes texts at n_at variables call after directory n from_here given found knows e is found_is call_is after_is =
@@ -129,7 +129,7 @@ on_path_raises nodes texts at n_at variables what which directory knows e is =
     raised nodes at variables (syntax.OnPath (path_call_of which) (directory_of directory) (expression_at nodes (at + 1))) _ what here.stands
     (λ c same. value_raises (text_of c.variables (expression_at nodes (at + 1))) what c (λ it. asks (model.OnPath (path_call_of which) (place_in c.variables (directory_of directory)) it) c) (is ∙ ap (λ those. text_of those (expression_at nodes (at + 1))) (sym same)))
 
-pub on_path_step : (nodes : List Node) (texts at : ℕ) (n_at : Node) (variables : List Value) (call : Ask) (after : ℕ) (which : PathCall) (directory : Directory) (given : TextId) (found : Place) → Knows nodes texts at n_at → n_at ≡ (node.OnPath which directory)
+pub on_path_step : (nodes : List Node) (texts at : ℕ) (n_at : Node) (variables : List Value) (call : Ask) (after : ℕ) (which : PathCall) (directory : Directory) (given : TextId) (found : DirectoryRef) → Knows nodes texts at n_at → n_at ≡ (node.OnPath which directory)
     → Is given ≡ text_of variables (expression_at nodes (at + 1)) → place_of found ≡ place_in variables (directory_of directory) → call ≡ ask.OnPath which found given → after ≡ behind_expression nodes (at + 1) → IsCallStep nodes texts at variables call after
 unfolding statement
 on_path_step nodes texts at n_at variables call after which directory given found knows e is found_is call_is after_is =
@@ -155,7 +155,7 @@ save_content_raises nodes texts at n_at variables what only_new directory name k
     (λ c same. value_gives (text_of c.variables (expression_at nodes (at + 1))) name c (λ name. with_value (text_of c.variables (expression_at nodes (behind_expression nodes (at + 1)))) c (λ text. asks (model.Save only_new (place_in c.variables (directory_of directory)) name text) c)) (first ∙ ap (λ those. text_of those (expression_at nodes (at + 1))) (sym same))
     ∙ value_raises (text_of c.variables (expression_at nodes (behind_expression nodes (at + 1)))) what c (λ text. asks (model.Save only_new (place_in c.variables (directory_of directory)) name text) c) (is ∙ ap (λ those. text_of those (expression_at nodes (behind_expression nodes (at + 1)))) (sym same)))
 
-pub save_step : (nodes : List Node) (texts at : ℕ) (n_at : Node) (variables : List Value) (call : Ask) (after : ℕ) (only_new : Bool) (directory : Directory) (name content : TextId) (found : Place) → Knows nodes texts at n_at → n_at ≡ (node.Save only_new directory)
+pub save_step : (nodes : List Node) (texts at : ℕ) (n_at : Node) (variables : List Value) (call : Ask) (after : ℕ) (only_new : Bool) (directory : Directory) (name content : TextId) (found : DirectoryRef) → Knows nodes texts at n_at → n_at ≡ (node.Save only_new directory)
     → Is name ≡ text_of variables (expression_at nodes (at + 1)) → Is content ≡ text_of variables (expression_at nodes (behind_expression nodes (at + 1))) → place_of found ≡ place_in variables (directory_of directory)
     → call ≡ ask.Save only_new found name content → after ≡ behind_expression nodes (behind_expression nodes (at + 1)) → IsCallStep nodes texts at variables call after
 unfolding statement

@@ -12,7 +12,7 @@ use Rattle.spec_fiber.specs.Settling.{Settled, answered, thrown, resource_of}
 use Rattle.spec_fiber.specs.Silent.{block}
 use Rattle.spec_fiber.specs.Work as work
 use Rattle.spec_fiber.specs.Work.{Work, Carry, restored, cut}
-use Rattle.fiber_step.specs.Kept.{Kept}
+use Rattle.fiber_step.specs.Framing.{KeptFrames}
 use Rattle.fiber_step.specs.Placing.{HasItsBlock, ArePlaced}
 use Rattle.fiber_step.specs.Standing.{ask_of, mark_work, works_of, kept_by, is_end, Ends}
 use Rattle.fiber_step.specs.Stepping.{HasBodiesOf}
@@ -23,39 +23,39 @@ use Rattle.fiber_step.specs.declared.item.Item.TheVariants as item
 use Rattle.fiber_step.specs.declared.mark.End.{End}
 use Rattle.fiber_step.specs.declared.mark.Mark.{Mark}
 use Rattle.fiber_step.specs.declared.mark.Mark.TheVariants as mark
-use Rattle.fiber_step.specs.declared.turn.Turn.{Turn}
-use Rattle.fiber_step.specs.declared.turn.Turn.TheVariants as turn
+use Rattle.fiber_step.specs.declared.progress.Progress.{Progress}
+use Rattle.fiber_step.specs.declared.progress.Progress.TheVariants as progress
 use Rattle.fiber_step.proofs.Positions.{next_two}
 use Rattle.fiber_step.proofs.Turns.{mark_next, mark_weight, mark_placed, placed_mark, as_turn}
 
 -- ## Before a block
 
-pub block_works : (nodes : List Node) (end : Mark) (body : ℕ) (kept : Kept)
+pub block_works : (nodes : List Node) (end : Mark) (body : ℕ) (kept : KeptFrames)
     → work.Run (statements_at nodes body) ∷ mark_work nodes end ∷ works_of nodes kept.items ≡ works_of nodes (gone_into end body kept).items
 block_works nodes end body kept = sym (next_two nodes kept.items (item.Mark end) body)
 
-pub block_weight : (nodes : List Node) (end : Mark) (body : ℕ) (kept : Kept)
+pub block_weight : (nodes : List Node) (end : Mark) (body : ℕ) (kept : KeptFrames)
     → weight (works_of nodes (gone_into end body kept).items) ≡ weight_of_statements (statements_at nodes body) + (weight_of_item (mark_work nodes end) + weight (works_of nodes kept.items))
 block_weight nodes end body kept = ap weight (next_two nodes kept.items (item.Mark end) body)
 
-pub block_placed : (nodes : List Node) (end : Mark) (body : ℕ) (kept : Kept) → ArePlaced nodes kept.items → HasItsBlock nodes (mark.Run body) → ArePlaced nodes (kept.items ++ item.Mark end ∷ [])
+pub block_placed : (nodes : List Node) (end : Mark) (body : ℕ) (kept : KeptFrames) → ArePlaced nodes kept.items → HasItsBlock nodes (mark.Run body) → ArePlaced nodes (kept.items ++ item.Mark end ∷ [])
     → ArePlaced nodes (gone_into end body kept).items
 block_placed nodes end body kept all has with_end = placed_mark nodes (mark.Run body) (kept.items ++ item.Mark end ∷ []) with_end (has, tt)
 
 -- ## Ends
 
-kept_same : (nodes : List Node) (call : model.Ask) (keep : Option ℕ) (old : Kept) (c : Carry)
+kept_same : (nodes : List Node) (call : model.Ask) (keep : Option ℕ) (old : KeptFrames) (c : Carry)
     → (let s : Settled = record { call = call; behind = works_of nodes old.items; carry = kept_by keep (restored old.variables c) } in s)
     ≡ (let s : Settled = record { call = call; behind = works_of nodes (kept_to keep old).items; carry = restored (kept_to keep old).variables c } in s)
 kept_same nodes call None old c = refl
 kept_same nodes call (Some keep) old c = refl
 
-kept_placed : (nodes : List Node) (keep : Option ℕ) (old : Kept) → ArePlaced nodes old.items → ArePlaced nodes (kept_to keep old).items
+kept_placed : (nodes : List Node) (keep : Option ℕ) (old : KeptFrames) → ArePlaced nodes old.items → ArePlaced nodes (kept_to keep old).items
 kept_placed nodes None old all = all
 kept_placed nodes (Some keep) old all = all
 
-pub end_turns : (nodes : List Node) (came : Outcome) (it : Mark) (old : Kept) (end : End) → Ends it came (Some end) → HasBodiesOf nodes end.call
-    → IsTurn nodes came (with_mark it old) (turn.Calls end.call) (kept_to end.keep old)
+pub end_turns : (nodes : List Node) (came : Outcome) (it : Mark) (old : KeptFrames) (end : End) → Ends it came (Some end) → HasBodiesOf nodes end.call
+    → IsTurn nodes came (with_mark it old) (progress.Calls end.call) (kept_to end.keep old)
 end_turns nodes came it old end ends bodies = record {
   next = λ c. mark_next nodes came it old c ∙ (ends nodes (works_of nodes old.items) (restored old.variables c) ∙ kept_same nodes (ask_of nodes end.call) end.keep old c);
   placed = λ all. kept_placed nodes end.keep old (mark_placed nodes it old all).0;
@@ -65,7 +65,7 @@ end_turns nodes came it old end ends bodies = record {
 
 -- ## Ends of blocks that do nothing more
 
-cut_turns : (nodes : List Node) (old : Kept) (keep : ℕ) (it : Value) → IsTurn nodes (outcome.Ok it) (with_mark (mark.Cut keep) old) (turn.GoesOn it) (cut_to keep old)
+cut_turns : (nodes : List Node) (old : KeptFrames) (keep : ℕ) (it : Value) → IsTurn nodes (outcome.Ok it) (with_mark (mark.Cut keep) old) (progress.GoesOn it) (cut_to keep old)
 unfolding answered
 cut_turns nodes old keep it = record {
   next = λ c. mark_next nodes (outcome.Ok it) (mark.Cut keep) old c;
@@ -74,7 +74,7 @@ cut_turns nodes old keep it = record {
   bodies = tt;
 }
 
-try_turns : (nodes : List Node) (old : Kept) (handler keep : ℕ) (it : Value) → IsTurn nodes (outcome.Ok it) (with_mark (mark.Try handler keep) old) (turn.GoesOn it) (cut_to keep old)
+try_turns : (nodes : List Node) (old : KeptFrames) (handler keep : ℕ) (it : Value) → IsTurn nodes (outcome.Ok it) (with_mark (mark.Try handler keep) old) (progress.GoesOn it) (cut_to keep old)
 unfolding answered
 try_turns nodes old handler keep it = record {
   next = λ c. mark_next nodes (outcome.Ok it) (mark.Try handler keep) old c;
@@ -83,7 +83,7 @@ try_turns nodes old handler keep it = record {
   bodies = tt;
 }
 
-bind_turns : (nodes : List Node) (old : Kept) (slot : ℕ) (it : Value) → IsTurn nodes (outcome.Ok it) (with_mark (mark.Bind slot) old) (turn.GoesOn value.Unit) (naming it (cut_to slot old))
+bind_turns : (nodes : List Node) (old : KeptFrames) (slot : ℕ) (it : Value) → IsTurn nodes (outcome.Ok it) (with_mark (mark.Bind slot) old) (progress.GoesOn value.Unit) (naming it (cut_to slot old))
 unfolding answered
 bind_turns nodes old slot it = record {
   next = λ c. mark_next nodes (outcome.Ok it) (mark.Bind slot) old c;
@@ -94,8 +94,8 @@ bind_turns nodes old slot it = record {
 
 -- ## Turns of loops
 
-loop_turns : (nodes : List Node) (old : Kept) (body keep : ℕ) (it : Value)
-    → IsTurn nodes (outcome.Ok it) (with_mark (mark.Loop body keep) old) (turn.Calls ask.Turn) (gone_into (mark.Loop body keep) body (cut_to keep old))
+loop_turns : (nodes : List Node) (old : KeptFrames) (body keep : ℕ) (it : Value)
+    → IsTurn nodes (outcome.Ok it) (with_mark (mark.Loop body keep) old) (progress.Calls ask.Turn) (gone_into (mark.Loop body keep) body (cut_to keep old))
 unfolding answered
 loop_turns nodes old body keep it = record {
   next = λ c. mark_next nodes (outcome.Ok it) (mark.Loop body keep) old c
@@ -105,8 +105,8 @@ loop_turns nodes old body keep it = record {
   bodies = tt;
 }
 
-last_turn : (nodes : List Node) (old : Kept) (turn_number body keep : ℕ) (it : Value)
-    → IsTurn nodes (outcome.Ok it) (with_mark (mark.Repeat turn_number 0 body keep) old) (turn.GoesOn value.Unit) (cut_to keep old)
+last_turn : (nodes : List Node) (old : KeptFrames) (turn_number body keep : ℕ) (it : Value)
+    → IsTurn nodes (outcome.Ok it) (with_mark (mark.Repeat turn_number 0 body keep) old) (progress.GoesOn value.Unit) (cut_to keep old)
 unfolding answered
 last_turn nodes old turn_number body keep it = record {
   next = λ c. mark_next nodes (outcome.Ok it) (mark.Repeat turn_number 0 body keep) old c;
@@ -115,13 +115,13 @@ last_turn nodes old turn_number body keep it = record {
   bodies = tt;
 }
 
-pub no_turn_left : (nodes : List Node) (old : Kept) (turn_number left body keep : ℕ) (it : Value) → left ≡ 0
-    → IsTurn nodes (outcome.Ok it) (with_mark (mark.Repeat turn_number left body keep) old) (turn.GoesOn value.Unit) (cut_to keep old)
+pub no_turn_left : (nodes : List Node) (old : KeptFrames) (turn_number left body keep : ℕ) (it : Value) → left ≡ 0
+    → IsTurn nodes (outcome.Ok it) (with_mark (mark.Repeat turn_number left body keep) old) (progress.GoesOn value.Unit) (cut_to keep old)
 no_turn_left nodes old turn_number left body keep it none =
-    subst (λ k. IsTurn nodes (outcome.Ok it) (with_mark (mark.Repeat turn_number k body keep) old) (turn.GoesOn value.Unit) (cut_to keep old)) (sym none) (last_turn nodes old turn_number body keep it)
+    subst (λ k. IsTurn nodes (outcome.Ok it) (with_mark (mark.Repeat turn_number k body keep) old) (progress.GoesOn value.Unit) (cut_to keep old)) (sym none) (last_turn nodes old turn_number body keep it)
 
-another_turn : (nodes : List Node) (old : Kept) (turn_number left body keep : ℕ) (it : Value) → turn_number + suc left < 2 ^ 63
-    → IsTurn nodes (outcome.Ok it) (with_mark (mark.Repeat turn_number (suc left) body keep) old) (turn.Calls ask.Turn)
+another_turn : (nodes : List Node) (old : KeptFrames) (turn_number left body keep : ℕ) (it : Value) → turn_number + suc left < 2 ^ 63
+    → IsTurn nodes (outcome.Ok it) (with_mark (mark.Repeat turn_number (suc left) body keep) old) (progress.Calls ask.Turn)
     (gone_into (mark.Repeat (turn_number + 1) left body keep) body (naming (value.Int (pos turn_number)) (cut_to keep old)))
 unfolding answered
 another_turn nodes old turn_number left body keep it few =
@@ -136,20 +136,20 @@ another_turn nodes old turn_number left body keep it few =
       bodies = tt;
     }
 
-pub turn_left : (nodes : List Node) (old : Kept) (turn_number left body keep : ℕ) (it : Value) → turn_number + left < 2 ^ 63 → 0 < left
-    → IsTurn nodes (outcome.Ok it) (with_mark (mark.Repeat turn_number left body keep) old) (turn.Calls ask.Turn)
+pub turn_left : (nodes : List Node) (old : KeptFrames) (turn_number left body keep : ℕ) (it : Value) → turn_number + left < 2 ^ 63 → 0 < left
+    → IsTurn nodes (outcome.Ok it) (with_mark (mark.Repeat turn_number left body keep) old) (progress.Calls ask.Turn)
     (gone_into (mark.Repeat (turn_number + 1) (left - 1) body keep) body (naming (value.Int (pos turn_number)) (cut_to keep old)))
 turn_left nodes old turn_number left body keep it few some =
     let e : left ≡ suc (left - 1) = omega (arith, some) in
     let less : turn_number + suc (left - 1) < 2 ^ 63 = omega (arith, some, few) in
-    subst (λ k. IsTurn nodes (outcome.Ok it) (with_mark (mark.Repeat turn_number k body keep) old) (turn.Calls ask.Turn)
+    subst (λ k. IsTurn nodes (outcome.Ok it) (with_mark (mark.Repeat turn_number k body keep) old) (progress.Calls ask.Turn)
     (gone_into (mark.Repeat (turn_number + 1) (left - 1) body keep) body (naming (value.Int (pos turn_number)) (cut_to keep old)))) (sym e)
     (another_turn nodes old turn_number (left - 1) body keep it less)
 
 -- ## Blocks that begin once something is had
 
-lock_turns : (nodes : List Node) (old : Kept) (mutex body : ℕ) (it : Value)
-    → IsTurn nodes (outcome.Ok it) (with_mark (mark.Locking mutex body) old) (turn.GoesOn it) (gone_into (mark.Unlock mutex (length old.variables)) body old)
+lock_turns : (nodes : List Node) (old : KeptFrames) (mutex body : ℕ) (it : Value)
+    → IsTurn nodes (outcome.Ok it) (with_mark (mark.Locking mutex body) old) (progress.GoesOn it) (gone_into (mark.Unlock mutex (length old.variables)) body old)
 unfolding answered thrown block weight_of_block
 lock_turns nodes old mutex body it =
     let end = mark.Unlock mutex (length old.variables) in
@@ -161,8 +161,8 @@ lock_turns nodes old mutex body it =
       bodies = tt;
     }
 
-use_turns : (nodes : List Node) (old : Kept) (pool body : ℕ) (it : Value)
-    → IsTurn nodes (outcome.Ok it) (with_mark (mark.Using pool body) old) (turn.GoesOn it) (gone_into (mark.Put pool (resource_of it) (length old.variables)) body (naming it old))
+use_turns : (nodes : List Node) (old : KeptFrames) (pool body : ℕ) (it : Value)
+    → IsTurn nodes (outcome.Ok it) (with_mark (mark.Using pool body) old) (progress.GoesOn it) (gone_into (mark.Put pool (resource_of it) (length old.variables)) body (naming it old))
 unfolding answered thrown block weight_of_block
 use_turns nodes old pool body it =
     let end = mark.Put pool (resource_of it) (length old.variables) in
@@ -179,37 +179,37 @@ use_turns nodes old pool body it =
 
 -- ## By what the code does
 
-pub cut_off_turns : (it : Mark) (keep : ℕ) (v : Value) (old new : Kept) (t : Turn) → it ≡ mark.Cut keep → t ≡ turn.GoesOn v → new ≡ cut_to keep old
+pub cut_off_turns : (it : Mark) (keep : ℕ) (v : Value) (old new : KeptFrames) (t : Progress) → it ≡ mark.Cut keep → t ≡ progress.GoesOn v → new ≡ cut_to keep old
     → (nodes : List Node) → IsTurn nodes (outcome.Ok v) (with_mark it old) t new
-cut_off_turns it keep v old new t is goes kept nodes = as_turn nodes (outcome.Ok v) it (mark.Cut keep) old t (turn.GoesOn v) new (cut_to keep old) is goes kept (cut_turns nodes old keep v)
+cut_off_turns it keep v old new t is goes kept nodes = as_turn nodes (outcome.Ok v) it (mark.Cut keep) old t (progress.GoesOn v) new (cut_to keep old) is goes kept (cut_turns nodes old keep v)
 
-pub tried_turns : (it : Mark) (handler keep : ℕ) (v : Value) (old new : Kept) (t : Turn) → it ≡ mark.Try handler keep → t ≡ turn.GoesOn v → new ≡ cut_to keep old
+pub tried_turns : (it : Mark) (handler keep : ℕ) (v : Value) (old new : KeptFrames) (t : Progress) → it ≡ mark.Try handler keep → t ≡ progress.GoesOn v → new ≡ cut_to keep old
     → (nodes : List Node) → IsTurn nodes (outcome.Ok v) (with_mark it old) t new
 tried_turns it handler keep v old new t is goes kept nodes =
-    as_turn nodes (outcome.Ok v) it (mark.Try handler keep) old t (turn.GoesOn v) new (cut_to keep old) is goes kept (try_turns nodes old handler keep v)
+    as_turn nodes (outcome.Ok v) it (mark.Try handler keep) old t (progress.GoesOn v) new (cut_to keep old) is goes kept (try_turns nodes old handler keep v)
 
-pub bound_turns : (it : Mark) (slot : ℕ) (v : Value) (old new : Kept) (t : Turn) → it ≡ mark.Bind slot → t ≡ turn.GoesOn value.Unit → new ≡ naming v (cut_to slot old)
+pub bound_turns : (it : Mark) (slot : ℕ) (v : Value) (old new : KeptFrames) (t : Progress) → it ≡ mark.Bind slot → t ≡ progress.GoesOn value.Unit → new ≡ naming v (cut_to slot old)
     → (nodes : List Node) → IsTurn nodes (outcome.Ok v) (with_mark it old) t new
 bound_turns it slot v old new t is goes kept nodes =
-    as_turn nodes (outcome.Ok v) it (mark.Bind slot) old t (turn.GoesOn value.Unit) new (naming v (cut_to slot old)) is goes kept (bind_turns nodes old slot v)
+    as_turn nodes (outcome.Ok v) it (mark.Bind slot) old t (progress.GoesOn value.Unit) new (naming v (cut_to slot old)) is goes kept (bind_turns nodes old slot v)
 
-pub looped_turns : (it : Mark) (body keep : ℕ) (v : Value) (old new : Kept) (t : Turn) → it ≡ mark.Loop body keep → t ≡ turn.Calls ask.Turn → new ≡ gone_into (mark.Loop body keep) body (cut_to keep old)
+pub looped_turns : (it : Mark) (body keep : ℕ) (v : Value) (old new : KeptFrames) (t : Progress) → it ≡ mark.Loop body keep → t ≡ progress.Calls ask.Turn → new ≡ gone_into (mark.Loop body keep) body (cut_to keep old)
     → (nodes : List Node) → IsTurn nodes (outcome.Ok v) (with_mark it old) t new
 looped_turns it body keep v old new t is goes kept nodes =
-    as_turn nodes (outcome.Ok v) it (mark.Loop body keep) old t (turn.Calls ask.Turn) new (gone_into (mark.Loop body keep) body (cut_to keep old)) is goes kept (loop_turns nodes old body keep v)
+    as_turn nodes (outcome.Ok v) it (mark.Loop body keep) old t (progress.Calls ask.Turn) new (gone_into (mark.Loop body keep) body (cut_to keep old)) is goes kept (loop_turns nodes old body keep v)
 
-pub locked_turns : (it : Mark) (mutex body : ℕ) (v : Value) (old new : Kept) (t : Turn) → it ≡ mark.Locking mutex body → t ≡ turn.GoesOn v → new ≡ gone_into (mark.Unlock mutex (length old.variables)) body old
+pub locked_turns : (it : Mark) (mutex body : ℕ) (v : Value) (old new : KeptFrames) (t : Progress) → it ≡ mark.Locking mutex body → t ≡ progress.GoesOn v → new ≡ gone_into (mark.Unlock mutex (length old.variables)) body old
     → (nodes : List Node) → IsTurn nodes (outcome.Ok v) (with_mark it old) t new
 locked_turns it mutex body v old new t is goes kept nodes =
-    as_turn nodes (outcome.Ok v) it (mark.Locking mutex body) old t (turn.GoesOn v) new (gone_into (mark.Unlock mutex (length old.variables)) body old) is goes kept (lock_turns nodes old mutex body v)
+    as_turn nodes (outcome.Ok v) it (mark.Locking mutex body) old t (progress.GoesOn v) new (gone_into (mark.Unlock mutex (length old.variables)) body old) is goes kept (lock_turns nodes old mutex body v)
 
-pub given_turns : (it : Mark) (pool body : ℕ) (v : Value) (old new : Kept) (t : Turn) → it ≡ mark.Using pool body → t ≡ turn.GoesOn v
+pub given_turns : (it : Mark) (pool body : ℕ) (v : Value) (old new : KeptFrames) (t : Progress) → it ≡ mark.Using pool body → t ≡ progress.GoesOn v
     → new ≡ gone_into (mark.Put pool (resource_of v) (length old.variables)) body (naming v old)
     → (nodes : List Node) → IsTurn nodes (outcome.Ok v) (with_mark it old) t new
 given_turns it pool body v old new t is goes kept nodes =
-    as_turn nodes (outcome.Ok v) it (mark.Using pool body) old t (turn.GoesOn v) new (gone_into (mark.Put pool (resource_of v) (length old.variables)) body (naming v old)) is goes kept (use_turns nodes old pool body v)
+    as_turn nodes (outcome.Ok v) it (mark.Using pool body) old t (progress.GoesOn v) new (gone_into (mark.Put pool (resource_of v) (length old.variables)) body (naming v old)) is goes kept (use_turns nodes old pool body v)
 
-pub repeated_turns : (it : Mark) (turn_number left body keep : ℕ) (v : Value) (old new : Kept) (t : Turn) → it ≡ mark.Repeat turn_number left body keep
+pub repeated_turns : (it : Mark) (turn_number left body keep : ℕ) (v : Value) (old new : KeptFrames) (t : Progress) → it ≡ mark.Repeat turn_number left body keep
     → ((nodes : List Node) (v : Value) → IsTurn nodes (outcome.Ok v) (with_mark (mark.Repeat turn_number left body keep) old) t new)
     → (nodes : List Node) → IsTurn nodes (outcome.Ok v) (with_mark it old) t new
 repeated_turns it turn_number left body keep v old new t is goes nodes = subst (λ x. IsTurn nodes (outcome.Ok v) (with_mark x old) t new) (sym is) (goes nodes v)

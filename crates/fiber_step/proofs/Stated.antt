@@ -23,7 +23,7 @@ use Rattle.spec_fiber.specs.Work.{Work, Carry, restored, bound}
 use Rattle.fiber_step.specs.Calling.{first_statement, statement_at}
 use Rattle.fiber_step.specs.Going.{goes}
 use Rattle.fiber_step.specs.Having.{HasExpression, BeginsStatement, HasStatements, HasParts}
-use Rattle.fiber_step.specs.Kept.{Kept}
+use Rattle.fiber_step.specs.Framing.{KeptFrames}
 use Rattle.fiber_step.specs.Placing.{ArePlaced}
 use Rattle.fiber_step.specs.Standing.{works_of}
 use Rattle.fiber_step.specs.Stating.{lets_of, bound_by, IsBehindLets, IsForm, NoGive, binding, IsDone, IsDoneBy, IsSilentStep, IsLastStep, RaisesWithin}
@@ -36,8 +36,8 @@ use Rattle.fiber_step.specs.declared.mark.Mark.TheVariants as mark
 use Rattle.fiber_step.specs.declared.step.Step.{Step}
 use Rattle.fiber_step.specs.declared.step.Step.TheVariants as step
 use Rattle.fiber_step.specs.declared.step.Stepped.{Stepped}
-use Rattle.fiber_step.specs.declared.turn.Turn.{Turn}
-use Rattle.fiber_step.specs.declared.turn.Turn.TheVariants as turn
+use Rattle.fiber_step.specs.declared.progress.Progress.{Progress}
+use Rattle.fiber_step.specs.declared.progress.Progress.TheVariants as progress
 use Rattle.fiber_step.proofs.Dones.{some_weight}
 use Rattle.fiber_step.proofs.MarksAgree.{marks_agree}
 use Rattle.fiber_step.proofs.Parts.{has_parts, begins}
@@ -124,12 +124,12 @@ one_more_let nodes number form n behind at stands is =
 
 -- ## Their marks
 
-pub binding_more : (left : ℕ) (old new : Kept) → 0 < left → new ≡ with_mark (mark.Bind (length old.variables)) old → binding (left - 1) new ≡ binding left old
+pub binding_more : (left : ℕ) (old new : KeptFrames) → 0 < left → new ≡ with_mark (mark.Bind (length old.variables)) old → binding (left - 1) new ≡ binding left old
 binding_more left old new some e =
     let is : suc (left - 1) ≡ left = omega (arith, some) in
     ap (binding (left - 1)) e ∙ ap (λ n. binding n old) is
 
-binding_goes : (nodes : List Node) (n : ℕ) (form : Statement) (kept : Kept) (c : Carry)
+binding_goes : (nodes : List Node) (n : ℕ) (form : Statement) (kept : KeptFrames) (c : Carry)
     → goes (statement (lets_of n form) (restored kept.variables c)) (works_of nodes kept.items) ≡ goes (statement form (restored (binding n kept).variables c)) (works_of nodes (binding n kept).items)
 binding_goes nodes zero form kept c = refl
 binding_goes nodes (suc n) form kept c =
@@ -137,12 +137,12 @@ binding_goes nodes (suc n) form kept c =
     ∙ (ap (λ work. goes (statement (lets_of n form) (restored kept.variables c)) work) (sym (next_item nodes kept.items (item.Mark (mark.Bind (length kept.variables)))))
     ∙ binding_goes nodes n form (with_mark (mark.Bind (length kept.variables)) kept) c)
 
-binding_placed : (nodes : List Node) (n : ℕ) (kept : Kept) → ArePlaced nodes kept.items → ArePlaced nodes (binding n kept).items
+binding_placed : (nodes : List Node) (n : ℕ) (kept : KeptFrames) → ArePlaced nodes kept.items → ArePlaced nodes (binding n kept).items
 binding_placed nodes zero kept all = all
 binding_placed nodes (suc n) kept all =
     binding_placed nodes n (with_mark (mark.Bind (length kept.variables)) kept) (placed_mark nodes (mark.Bind (length kept.variables)) kept.items all (tt, tt))
 
-binding_weight : (nodes : List Node) (n : ℕ) (kept : Kept) → weight (works_of nodes (binding n kept).items) ≡ n + weight (works_of nodes kept.items)
+binding_weight : (nodes : List Node) (n : ℕ) (kept : KeptFrames) → weight (works_of nodes (binding n kept).items) ≡ n + weight (works_of nodes kept.items)
 binding_weight nodes zero kept = omega arith
 binding_weight nodes (suc n) kept =
     let inner = binding_weight nodes n (with_mark (mark.Bind (length kept.variables)) kept) in
@@ -184,7 +184,7 @@ formed nodes at form after n is rest found stands no_give =
         gives_only nodes form n (has_parts nodes form n is.behind.begins here) says no_give (λ e. is.last (here ∙ ap (λ m. Some m) e))
 
 -- it is followed by what is left of the block, behind the marks of its lets
-formed_next : (nodes : List Node) (at form after : ℕ) (old : Kept) (it : Value) (c : Carry) (f : Formed nodes at form after)
+formed_next : (nodes : List Node) (at form after : ℕ) (old : KeptFrames) (it : Value) (c : Carry) (f : Formed nodes at form after)
     → answered (work.Run (statements_at nodes at) ∷ works_of nodes old.items) it (restored old.variables c)
     ≡ goes (statement (statement_at nodes form) (restored (binding f.lets (with_mark (mark.Run after) old)).variables c)) (works_of nodes (binding f.lets (with_mark (mark.Run after) old)).items)
 formed_next nodes at form after old it c f =
@@ -193,15 +193,15 @@ formed_next nodes at form after old it c f =
     ∙ (ap (λ work. goes (statement (lets_of f.lets (statement_at nodes form)) (restored old.variables c)) work) (sym (next_item nodes old.items (item.Mark (mark.Run after))))
     ∙ binding_goes nodes f.lets (statement_at nodes form) (with_mark (mark.Run after) old) c))
 
-run_weight : (nodes : List Node) (at form after : ℕ) (old : Kept) (f : Formed nodes at form after)
+run_weight : (nodes : List Node) (at form after : ℕ) (old : KeptFrames) (f : Formed nodes at form after)
     → weight (works_of nodes (with_mark (mark.Run at) old).items) ≡ weight_of_statement (lets_of f.lets (statement_at nodes form)) + weight_of_statements (statements_at nodes after) + weight (works_of nodes old.items)
 unfolding weight_of_statements
 run_weight nodes at form after old f = mark_weight nodes (mark.Run at) old ∙ ap (λ items. weight_of_statements items + weight (works_of nodes old.items)) f.is
 
-formed_lighter : (nodes : List Node) (at form after : ℕ) (old new : Kept) (t : Turn) (f : Formed nodes at form after) → IsDone nodes form (binding f.lets (with_mark (mark.Run after) old)) t new
+formed_lighter : (nodes : List Node) (at form after : ℕ) (old new : KeptFrames) (t : Progress) (f : Formed nodes at form after) → IsDone nodes form (binding f.lets (with_mark (mark.Run after) old)) t new
     → IsLighter nodes (with_mark (mark.Run at) old) t new
-formed_lighter nodes at form after old new (turn.Calls call) f done = tt
-formed_lighter nodes at form after old new (turn.GoesOn it) f done =
+formed_lighter nodes at form after old new (progress.Calls call) f done = tt
+formed_lighter nodes at form after old new (progress.GoesOn it) f done =
     let less = done.lighter in
     let inner = binding_weight nodes f.lets (with_mark (mark.Run after) old) in
     let rest = mark_weight nodes (mark.Run after) old in
@@ -209,7 +209,7 @@ formed_lighter nodes at form after old new (turn.GoesOn it) f done =
     let lets = lets_weight f.lets (statement_at nodes form) in
     omega (arith, less, inner, rest, whole, lets)
 
-pub formed_turn : (nodes : List Node) (at form after lets : ℕ) (old mid new : Kept) (it : Value) (t : Turn) → Formed nodes at form after → HasStatements nodes after → lets ≡ form - at
+pub formed_turn : (nodes : List Node) (at form after lets : ℕ) (old mid new : KeptFrames) (it : Value) (t : Progress) → Formed nodes at form after → HasStatements nodes after → lets ≡ form - at
     → mid ≡ binding lets (with_mark (mark.Run after) old) → IsDone nodes form mid t new
     → IsTurn nodes (outcome.Ok it) (with_mark (mark.Run at) old) t new
 formed_turn nodes at form after lets old mid new it t f has many same done =
@@ -249,12 +249,12 @@ unfolding thrown
 first_raises it rest behind before c what true e raised = marks_agree.given it rest behind before c e ∙ ap (λ (w : Went). goes w behind) raised
 first_raises it rest behind before c what false e raised = marks_agree.rest it rest behind before c e ∙ ap (λ (w : Went). goes w (work.Run rest ∷ behind)) raised
 
-lighter_raise : (nodes : List Node) (old new : Kept) (t : Turn) (at : ℕ) → IsLighter nodes old t new → IsLighter nodes (with_mark (mark.Run at) old) t new
-lighter_raise nodes old new (turn.Calls call) at less = tt
-lighter_raise nodes old new (turn.GoesOn it) at less = let sum = mark_weight nodes (mark.Run at) old in omega (arith, less, sum)
+lighter_raise : (nodes : List Node) (old new : KeptFrames) (t : Progress) (at : ℕ) → IsLighter nodes old t new → IsLighter nodes (with_mark (mark.Run at) old) t new
+lighter_raise nodes old new (progress.Calls call) at less = tt
+lighter_raise nodes old new (progress.GoesOn it) at less = let sum = mark_weight nodes (mark.Run at) old in omega (arith, less, sum)
 
 -- the first statement of those that are left
-pub raising_turn : (nodes : List Node) (at : ℕ) (old new : Kept) (it : Value) (t : Turn) (shared later : Shared) (what : Plain) (first : Statement) (rest : Statements)
+pub raising_turn : (nodes : List Node) (at : ℕ) (old new : KeptFrames) (it : Value) (t : Progress) (shared later : Shared) (what : Plain) (first : Statement) (rest : Statements)
     → statements_at nodes at ≡ Then first rest → ((c : Carry) → c.variables ≡ old.variables → statement first c ≡ raises what c)
     → IsStatedWith nodes (raises what) old shared t new later → IsTurnWith nodes (outcome.Ok it) (with_mark (mark.Run at) old) shared t new later
 raising_turn nodes at old new it t shared later what first rest is raised stated = record {
@@ -270,7 +270,7 @@ raising_turn nodes at old new it t shared later what first rest is raised stated
 }
 
 -- a form behind lets
-pub form_raises : (nodes : List Node) (at form : ℕ) (old new : Kept) (it : Value) (t : Turn) (shared later : Shared) (what : Plain) → IsForm nodes at form
+pub form_raises : (nodes : List Node) (at form : ℕ) (old new : KeptFrames) (it : Value) (t : Progress) (shared later : Shared) (what : Plain) → IsForm nodes at form
     → ((c : Carry) → c.variables ≡ old.variables → statement (statement_at nodes form) c ≡ raises what c)
     → IsStatedWith nodes (raises what) old shared t new later → IsTurnWith nodes (outcome.Ok it) (with_mark (mark.Run at) old) shared t new later
 form_raises nodes at form old new it t shared later what is raised stated =
@@ -281,8 +281,8 @@ form_raises nodes at form old new it t shared later what is raised stated =
 
 -- ## The end of a block, and what gives its value
 
-pub block_ends : (nodes : List Node) (at : ℕ) (n : Node) (old : Kept) (it : Value) (shared : Shared) → Stands nodes at n → n ≡ node.End
-    → IsTurnWith nodes (outcome.Ok it) (with_mark (mark.Run at) old) shared (turn.GoesOn value.Unit) old shared
+pub block_ends : (nodes : List Node) (at : ℕ) (n : Node) (old : KeptFrames) (it : Value) (shared : Shared) → Stands nodes at n → n ≡ node.End
+    → IsTurnWith nodes (outcome.Ok it) (with_mark (mark.Run at) old) shared (progress.GoesOn value.Unit) old shared
 unfolding weight_of_statements
 block_ends nodes at n old it shared stands is =
     let says : statements_at nodes at ≡ Done = subst (λ m. Stands nodes at m) is stands in
@@ -305,8 +305,8 @@ give_throws : (e : Expression) (c : Carry) (what : Plain) (variables : List Valu
 unfolding statement
 give_throws e c what variables is same = ap (λ those. with_value (value_of those e) c (λ it. Past it c)) same ∙ ap (λ (found : Evaluated Value). with_value found c (λ it. Past it c)) (sym is)
 
-pub give_turn : (nodes : List Node) (at : ℕ) (old : Kept) (it v : Value) (shared : Shared) → Stands nodes at node.Give → Is v ≡ value_of old.variables (expression_at nodes (at + 1))
-    → IsTurnWith nodes (outcome.Ok it) (with_mark (mark.Run at) old) shared (turn.GoesOn v) old shared
+pub give_turn : (nodes : List Node) (at : ℕ) (old : KeptFrames) (it v : Value) (shared : Shared) → Stands nodes at node.Give → Is v ≡ value_of old.variables (expression_at nodes (at + 1))
+    → IsTurnWith nodes (outcome.Ok it) (with_mark (mark.Run at) old) shared (progress.GoesOn v) old shared
 unfolding weight_of_statements
 give_turn nodes at old it v shared says gives_it =
     record {
@@ -322,7 +322,7 @@ give_turn nodes at old it v shared says gives_it =
       bodies = tt;
     }
 
-pub give_raises : (nodes : List Node) (at : ℕ) (old new : Kept) (it : Value) (t : Turn) (shared later : Shared) (what : Plain) → Stands nodes at node.Give
+pub give_raises : (nodes : List Node) (at : ℕ) (old new : KeptFrames) (it : Value) (t : Progress) (shared later : Shared) (what : Plain) → Stands nodes at node.Give
     → Raises what ≡ value_of old.variables (expression_at nodes (at + 1))
     → IsStatedWith nodes (raises what) old shared t new later → IsTurnWith nodes (outcome.Ok it) (with_mark (mark.Run at) old) shared t new later
 give_raises nodes at old new it t shared later what says raised stated =
@@ -387,24 +387,24 @@ step_after nodes number after (step.Uses pool body) is last = is
 step_after nodes number after (step.Raises text) is last = is
 step_after nodes number after (step.Calls call) is last = is
 
-binding_variables : (n : ℕ) (kept : Kept) → (binding n kept).variables ≡ kept.variables
+binding_variables : (n : ℕ) (kept : KeptFrames) → (binding n kept).variables ≡ kept.variables
 binding_variables zero kept = refl
 binding_variables (suc n) kept = binding_variables n (with_mark (mark.Bind (length kept.variables)) kept)
 
 -- a statement that raises nothing, by what its step did
-pub step_turns : (nodes : List Node) (count at form lets : ℕ) (stepped : Stepped) (old mid new : Kept) (it : Value) (t : Turn) (shared : Shared) → IsForm nodes at form → NoGive nodes at
+pub step_turns : (nodes : List Node) (count at form lets : ℕ) (stepped : Stepped) (old mid new : KeptFrames) (it : Value) (t : Progress) (shared : Shared) → IsForm nodes at form → NoGive nodes at
     → IsStepped nodes count form old.variables stepped → IsLastStep stepped.step → lets ≡ form - at → mid ≡ binding lets (with_mark (mark.Run stepped.after) old) → IsDoneBy stepped.step mid t new
     → IsTurnWith nodes (outcome.Ok it) (with_mark (mark.Run at) old) shared t new shared
 step_turns nodes count at form lets stepped old mid new it t shared is first found last many same done =
     let after = step_after nodes form stepped.after stepped.step found.after last in
     let f = formed nodes at form stepped.after first.first is after.0 first.is first.stands first.other in
-    let variables : old.variables ≡ mid.variables = sym (ap (λ (k : Kept). k.variables) same ∙ binding_variables lets (with_mark (mark.Run stepped.after) old)) in
+    let variables : old.variables ≡ mid.variables = sym (ap (λ (k : KeptFrames). k.variables) same ∙ binding_variables lets (with_mark (mark.Run stepped.after) old)) in
     let goes = subst (λ those. IsStep nodes form those stepped.step) variables found.is in
     turn_with nodes (outcome.Ok it) (with_mark (mark.Run at) old) new t shared
     (formed_turn nodes at form stepped.after lets old mid new it t f after.1 many same (done nodes form goes found.bodies found.light))
 
 -- a form behind lets that raises a text
-pub step_raises : (nodes : List Node) (count at form : ℕ) (stepped : Stepped) (text : TextId) (old new : Kept) (it : Value) (t : Turn) (shared later : Shared) → IsForm nodes at form
+pub step_raises : (nodes : List Node) (count at form : ℕ) (stepped : Stepped) (text : TextId) (old new : KeptFrames) (it : Value) (t : Progress) (shared later : Shared) → IsForm nodes at form
     → IsStepped nodes count form old.variables stepped → stepped.step ≡ step.Raises text → IsStatedWith nodes (raises (Failure text)) old shared t new later
     → IsTurnWith nodes (outcome.Ok it) (with_mark (mark.Run at) old) shared t new later
 step_raises nodes count at form stepped text old new it t shared later is found e stated =

@@ -20,7 +20,7 @@ use Rattle.spec_fiber.specs.Settling.{Settled, answered, thrown}
 use Rattle.spec_fiber.specs.Silent.{raises, block}
 use Rattle.spec_fiber.specs.Work as work
 use Rattle.spec_fiber.specs.Work.{Carry, restored, bound}
-use Rattle.fiber_step.specs.Kept.{Kept}
+use Rattle.fiber_step.specs.Framing.{KeptFrames}
 use Rattle.fiber_step.specs.Standing.{works_of, is_end}
 use Rattle.fiber_step.specs.Throwing.{shared_by, IsGrown, IsTurnWith, IsStatedWith}
 use Rattle.fiber_step.specs.Turning.{with_mark, next_call, gone_into, cut_to, naming, carried, Shared, IsLighter, IsTurn}
@@ -29,8 +29,8 @@ use Rattle.fiber_step.specs.Weighing.{weight_of_block, weight}
 use Rattle.fiber_step.specs.declared.ask.Ask.TheVariants as ask
 use Rattle.fiber_step.specs.declared.mark.Mark.{Mark}
 use Rattle.fiber_step.specs.declared.mark.Mark.TheVariants as mark
-use Rattle.fiber_step.specs.declared.turn.Turn.{Turn}
-use Rattle.fiber_step.specs.declared.turn.Turn.TheVariants as turn
+use Rattle.fiber_step.specs.declared.progress.Progress.{Progress}
+use Rattle.fiber_step.specs.declared.progress.Progress.TheVariants as progress
 use Rattle.fiber_step.proofs.Passes.{block_works, block_weight, block_placed}
 use Rattle.fiber_step.proofs.Turns.{mark_next, mark_weight, mark_placed, placed_mark}
 
@@ -56,15 +56,15 @@ interned_grown texts later text id e = subst (λ these. IsGrown texts these) (sy
 
 -- ## Turns of an exception
 
-pub turn_with : (nodes : List Node) (came : Outcome) (old new : Kept) (t : Turn) (shared : Shared) → IsTurn nodes came old t new → IsTurnWith nodes came old shared t new shared
+pub turn_with : (nodes : List Node) (came : Outcome) (old new : KeptFrames) (t : Progress) (shared : Shared) → IsTurn nodes came old t new → IsTurnWith nodes came old shared t new shared
 turn_with nodes came old new t shared is = record { next = λ before. (before, is.next (carried shared before)); placed = is.placed; lighter = is.lighter; bodies = is.bodies }
 
-lighter_than : (nodes : List Node) (old mid new : Kept) (t : Turn) → weight (works_of nodes mid.items) ≤ weight (works_of nodes old.items) → IsLighter nodes mid t new → IsLighter nodes old t new
-lighter_than nodes old mid new (turn.GoesOn it) less lighter = omega (arith, less, lighter)
-lighter_than nodes old mid new (turn.Calls call) less lighter = tt
+lighter_than : (nodes : List Node) (old mid new : KeptFrames) (t : Progress) → weight (works_of nodes mid.items) ≤ weight (works_of nodes old.items) → IsLighter nodes mid t new → IsLighter nodes old t new
+lighter_than nodes old mid new (progress.GoesOn it) less lighter = omega (arith, less, lighter)
+lighter_than nodes old mid new (progress.Calls call) less lighter = tt
 
 -- behind what an exception drops
-pub dropped_turn : (nodes : List Node) (raised : Raised) (old mid new : Kept) (t : Turn) (shared later : Shared) → IsDropped old mid
+pub dropped_turn : (nodes : List Node) (raised : Raised) (old mid new : KeptFrames) (t : Progress) (shared later : Shared) → IsDropped old mid
     → IsTurnWith nodes (outcome.Err raised) mid shared t new later → IsTurnWith nodes (outcome.Err raised) old shared t new later
 dropped_turn nodes raised old mid new t shared later dropped is = record {
   next = λ before. let found = is.next before in (found.0, dropped.same nodes raised (carried shared before) ∙ found.1);
@@ -73,7 +73,7 @@ dropped_turn nodes raised old mid new t shared later dropped is = record {
   bodies = is.bodies;
 }
 
-none_left : (nodes : List Node) (raised : Raised) (kept : Kept) (c : Carry) → kept.items ≡ []
+none_left : (nodes : List Node) (raised : Raised) (kept : KeptFrames) (c : Carry) → kept.items ≡ []
     → next_call nodes (outcome.Err raised) kept c ≡ (let s : Settled = record { call = model.End (outcome.Err raised); behind = works_of nodes kept.items; carry = restored kept.variables c } in s)
 unfolding thrown
 none_left nodes raised kept c none =
@@ -81,8 +81,8 @@ none_left nodes raised kept c none =
     ∙ ap (λ these. let s : Settled = record { call = model.End (outcome.Err raised); behind = works_of nodes these; carry = restored kept.variables c } in s) (sym none)
 
 -- it ends a fiber that has no work
-pub ends_fiber : (nodes : List Node) (raised : Raised) (kept : Kept) (shared : Shared) → kept.items ≡ []
-    → IsTurnWith nodes (outcome.Err raised) kept shared (turn.Calls (ask.End (outcome.Err raised))) kept shared
+pub ends_fiber : (nodes : List Node) (raised : Raised) (kept : KeptFrames) (shared : Shared) → kept.items ≡ []
+    → IsTurnWith nodes (outcome.Err raised) kept shared (progress.Calls (ask.End (outcome.Err raised))) kept shared
 ends_fiber nodes raised kept shared none = record {
   next = λ before. (before, none_left nodes raised kept (carried shared before) none);
   placed = λ all. all;
@@ -91,7 +91,7 @@ ends_fiber nodes raised kept shared none = record {
 }
 
 -- it is caught
-caught_next : (nodes : List Node) (raised : Raised) (handler keep serial : ℕ) (texts later : List (List ℕ)) (id : TextId) (old : Kept) (before : List Member)
+caught_next : (nodes : List Node) (raised : Raised) (handler keep serial : ℕ) (texts later : List (List ℕ)) (id : TextId) (old : KeptFrames) (before : List Member)
     → (let i : Interned = record { id = id; texts = later } in i ≡ intern texts (bound_text texts raised))
     → next_call nodes (outcome.Err raised) (with_mark (mark.Try handler keep) old) (carried (shared_by texts serial) before)
     ≡ answered (work.Run (statements_at nodes handler) ∷ work.Cut keep ∷ works_of nodes old.items) value.Unit (restored (take keep old.variables ++ value.Text id ∷ []) (carried (shared_by later serial) before))
@@ -101,9 +101,9 @@ caught_next nodes raised handler keep serial texts later id old before interned 
     ∙ ap (λ (i : Interned). answered (work.Run (statements_at nodes handler) ∷ work.Cut keep ∷ works_of nodes old.items) value.Unit
     (restored (take keep old.variables ++ value.Text i.id ∷ []) (carried (shared_by i.texts serial) before))) (sym interned)
 
-pub caught_turn : (nodes : List Node) (raised : Raised) (handler keep serial : ℕ) (texts later : List (List ℕ)) (id : TextId) (old : Kept)
+pub caught_turn : (nodes : List Node) (raised : Raised) (handler keep serial : ℕ) (texts later : List (List ℕ)) (id : TextId) (old : KeptFrames)
     → (let i : Interned = record { id = id; texts = later } in i ≡ intern texts (bound_text texts raised))
-    → IsTurnWith nodes (outcome.Err raised) (with_mark (mark.Try handler keep) old) (shared_by texts serial) (turn.GoesOn value.Unit)
+    → IsTurnWith nodes (outcome.Err raised) (with_mark (mark.Try handler keep) old) (shared_by texts serial) (progress.GoesOn value.Unit)
     (gone_into (mark.Cut keep) handler (naming (value.Text id) (cut_to keep old))) (shared_by later serial)
 unfolding weight_of_block
 caught_turn nodes raised handler keep serial texts later id old interned =
@@ -121,7 +121,7 @@ caught_turn nodes raised handler keep serial texts later id old interned =
     }
 
 -- a new raise
-pub raised_turn : (nodes : List Node) (what : Plain) (old new : Kept) (t : Turn) (texts : List (List ℕ)) (serial : ℕ) (later : Shared)
+pub raised_turn : (nodes : List Node) (what : Plain) (old new : KeptFrames) (t : Progress) (texts : List (List ℕ)) (serial : ℕ) (later : Shared)
     → (let x : Member = record { serial = serial; what = what } in IsTurnWith nodes (outcome.Err (One x)) old (shared_by texts (serial + 1)) t new later)
     → IsStatedWith nodes (raises what) old (shared_by texts serial) t new later
 raised_turn nodes what old new t texts serial later is =

@@ -5,7 +5,7 @@ use Rattle.eio_value.specs.declared.raised.Outcome.{Outcome}
 use Rattle.script_forms.specs.declared.node.Node.{Node}
 use Rattle.spec_fiber.specs.Replies.{passed}
 use Rattle.spec_fiber.specs.Work.{Carry, restored}
-use Rattle.fiber_step.specs.Kept.{Kept}
+use Rattle.fiber_step.specs.Framing.{KeptFrames}
 use Rattle.fiber_step.specs.Placing.{IsPlacedMark, IsPlaced, ArePlaced}
 use Rattle.fiber_step.specs.Standing.{mark_work, works_of}
 use Rattle.fiber_step.specs.Turning.{with_mark, next_call, IsTurn}
@@ -13,20 +13,20 @@ use Rattle.fiber_step.specs.Weighing.{weight_of_item, weight}
 use Rattle.fiber_step.specs.declared.item.Item.{Item}
 use Rattle.fiber_step.specs.declared.item.Item.TheVariants as item
 use Rattle.fiber_step.specs.declared.mark.Mark.{Mark}
-use Rattle.fiber_step.specs.declared.turn.Turn.{Turn}
+use Rattle.fiber_step.specs.declared.progress.Progress.{Progress}
 use Rattle.fiber_step.proofs.Positions.{next_item}
 
 -- a mark is the next item of work
-pub mark_next : (nodes : List Node) (came : Outcome) (it : Mark) (old : Kept) (c : Carry)
+pub mark_next : (nodes : List Node) (came : Outcome) (it : Mark) (old : KeptFrames) (c : Carry)
     → next_call nodes came (with_mark it old) c ≡ passed came (mark_work nodes it ∷ works_of nodes old.items) (restored old.variables c)
 mark_next nodes came it old c = ap (λ work. passed came work (restored old.variables c)) (next_item nodes old.items (item.Mark it))
 
-pub mark_weight : (nodes : List Node) (it : Mark) (old : Kept) → weight (works_of nodes (with_mark it old).items) ≡ weight_of_item (mark_work nodes it) + weight (works_of nodes old.items)
+pub mark_weight : (nodes : List Node) (it : Mark) (old : KeptFrames) → weight (works_of nodes (with_mark it old).items) ≡ weight_of_item (mark_work nodes it) + weight (works_of nodes old.items)
 mark_weight nodes it old = ap weight (next_item nodes old.items (item.Mark it))
 
 -- ## Placed items
 
-pub mark_placed : (nodes : List Node) (it : Mark) (old : Kept) → ArePlaced nodes (with_mark it old).items → ArePlaced nodes old.items × IsPlacedMark nodes it
+pub mark_placed : (nodes : List Node) (it : Mark) (old : KeptFrames) → ArePlaced nodes (with_mark it old).items → ArePlaced nodes old.items × IsPlacedMark nodes it
 mark_placed nodes it old all = All-pop (IsPlaced nodes) (old.items ++ item.Mark it ∷ []) old.items (Some (item.Mark it)) refl all
 
 pub placed_mark : (nodes : List Node) (it : Mark) (items : List Item) → ArePlaced nodes items → IsPlacedMark nodes it → ArePlaced nodes (items ++ item.Mark it ∷ [])
@@ -35,7 +35,7 @@ placed_mark nodes it items all is = All-push (IsPlaced nodes) items (item.Mark i
 -- ## Turns
 
 -- where another name is given to the mark and to what comes of it
-pub as_turn : (nodes : List Node) (came : Outcome) (it m : Mark) (old : Kept) (t s : Turn) (new k : Kept) → it ≡ m → t ≡ s → new ≡ k → IsTurn nodes came (with_mark m old) s k → IsTurn nodes came (with_mark it old) t new
+pub as_turn : (nodes : List Node) (came : Outcome) (it m : Mark) (old : KeptFrames) (t s : Progress) (new k : KeptFrames) → it ≡ m → t ≡ s → new ≡ k → IsTurn nodes came (with_mark m old) s k → IsTurn nodes came (with_mark it old) t new
 as_turn nodes came it m old t s new k same_mark same_turn same_kept is =
     subst (λ x. IsTurn nodes came (with_mark x old) t new) (sym same_mark)
     (subst (λ x. IsTurn nodes came (with_mark m old) x new) (sym same_turn)

@@ -6,7 +6,7 @@ use Rattle.eio_value.specs.declared.raised.Raised.{Raised}
 use Rattle.script_forms.specs.declared.node.Node.{Node}
 use Rattle.spec_fiber.specs.Settling.{thrown}
 use Rattle.spec_fiber.specs.Work.{Work, Carry, restored}
-use Rattle.fiber_step.specs.Kept.{Kept}
+use Rattle.fiber_step.specs.Framing.{KeptFrames}
 use Rattle.fiber_step.specs.Placing.{IsPlaced, ArePlaced}
 use Rattle.fiber_step.specs.Standing.{mark_work, works_of}
 use Rattle.fiber_step.specs.Turning.{with_mark, next_call}
@@ -38,25 +38,25 @@ goes_past nodes (mark.Using pool body) behind raised c e = refl
 goes_past nodes (mark.Put pool resource keep) behind raised c e = absurd (cc)
 goes_past nodes (mark.Resolve promise) behind raised c e = absurd (cc)
 
-same_weight : (old new : Kept) (nodes : List Node) → old ≡ new → weight (works_of nodes new.items) ≤ weight (works_of nodes old.items)
-same_weight old new nodes e = let same = ap (λ (k : Kept). weight (works_of nodes k.items)) e in omega (arith, same)
+same_weight : (old new : KeptFrames) (nodes : List Node) → old ≡ new → weight (works_of nodes new.items) ≤ weight (works_of nodes old.items)
+same_weight old new nodes e = let same = ap (λ (k : KeptFrames). weight (works_of nodes k.items)) e in omega (arith, same)
 
 -- where a fiber stands as it stood
-pub none_dropped : (old new : Kept) → old ≡ new → IsDropped old new
+pub none_dropped : (old new : KeptFrames) → old ≡ new → IsDropped old new
 none_dropped old new e = record {
   same = λ nodes raised c. ap (λ k. next_call nodes (outcome.Err raised) k c) e;
-  placed = λ nodes all. subst (λ (k : Kept). ArePlaced nodes k.items) e all;
+  placed = λ nodes all. subst (λ (k : KeptFrames). ArePlaced nodes k.items) e all;
   lighter = λ nodes. same_weight old new nodes e;
 }
 
-pub dropped_then : (old mid new : Kept) → IsDropped old mid → IsDropped mid new → IsDropped old new
+pub dropped_then : (old mid new : KeptFrames) → IsDropped old mid → IsDropped mid new → IsDropped old new
 dropped_then old mid new first second = record {
   same = λ nodes raised c. first.same nodes raised c ∙ second.same nodes raised c;
   placed = λ nodes all. second.placed nodes (first.placed nodes all);
   lighter = λ nodes. let less = first.lighter nodes in let more = second.lighter nodes in omega (arith, less, more);
 }
 
-past_mark : (it : Mark) (new : Kept) → stops it ≡ false → IsDropped (with_mark it new) new
+past_mark : (it : Mark) (new : KeptFrames) → stops it ≡ false → IsDropped (with_mark it new) new
 past_mark it new past = record {
   same = λ nodes raised c. mark_next nodes (outcome.Err raised) it new c ∙ goes_past nodes it (works_of nodes new.items) raised (restored new.variables c) past;
   placed = λ nodes all. (mark_placed nodes it new all).0;
@@ -64,11 +64,11 @@ past_mark it new past = record {
 }
 
 -- a mark is dropped at which it doesn't stop
-pub drops_mark : (old new : Kept) (it : Mark) → old ≡ with_mark it new → stops it ≡ false → IsDropped old new
+pub drops_mark : (old new : KeptFrames) (it : Mark) → old ≡ with_mark it new → stops it ≡ false → IsDropped old new
 drops_mark old new it e past = dropped_then old (with_mark it new) new (none_dropped old (with_mark it new) e) (past_mark it new past)
 
 -- the variables are back that were a fiber's
-pub drops_restoring : (old new : Kept) → old.items ≡ new.items ++ item.Restore new.variables ∷ [] → IsDropped old new
+pub drops_restoring : (old new : KeptFrames) → old.items ≡ new.items ++ item.Restore new.variables ∷ [] → IsDropped old new
 unfolding thrown
 drops_restoring old new e = record {
   same = λ nodes raised c. ap (λ work. thrown work raised (restored old.variables c)) (ap (works_of nodes) e ∙ next_item nodes new.items (item.Restore new.variables));

@@ -4,7 +4,7 @@ pub mod Entering
 pub mod Evaluating
 pub mod Going
 pub mod Having
-pub mod Kept
+pub mod Framing
 pub mod Placing
 pub mod Scoping
 pub mod Settling

@@ -6,13 +6,13 @@ use Rattle.eio_value.specs.declared.raised.Outcome.{Outcome}
 use Rattle.eio_value.specs.declared.raised.Outcome.TheVariants as outcome
 use Rattle.script_forms.specs.declared.node.Node.{Node}
 use Rattle.spec_fiber.specs.Work.{restored}
-use Rattle.fiber_step.specs.Kept.{Kept}
+use Rattle.fiber_step.specs.Framing.{KeptFrames}
 use Rattle.fiber_step.specs.Standing.{ask_of, works_of}
 use Rattle.fiber_step.specs.Turning.{Shared, carried, next_call}
 use Rattle.fiber_step.specs.declared.ask.Ask.{Ask}
 
 -- whatever raises there were, with these and perhaps more the next call is this one, and the fiber stands so behind it
-abbrev pub SettlesTo : List Node → Outcome → (old : Kept) → Shared → Ask → (new : Kept) → Shared → Type 0
+abbrev pub SettlesTo : List Node → Outcome → (old : KeptFrames) → Shared → Ask → (new : KeptFrames) → Shared → Type 0
 SettlesTo nodes came old shared call new later =
     (raises : List Member) → (others : List Member)
     × (next_call nodes came old (carried shared raises) ≡ record { call = ask_of nodes call; behind = works_of nodes new.items; carry = restored new.variables (carried later others) })

@@ -17,8 +17,8 @@ use Rattle.spec_fiber.specs.Work as work
 use Rattle.spec_fiber.specs.Work.{Work, Carry, cut}
 use Rattle.fiber_step.specs.declared.ask.Ask.{Ask}
 use Rattle.fiber_step.specs.declared.ask.Ask.TheVariants as ask
-use Rattle.fiber_step.specs.declared.ask.Place.{Place}
-use Rattle.fiber_step.specs.declared.ask.Place.TheVariants as place
+use Rattle.fiber_step.specs.declared.ask.DirectoryRef.{DirectoryRef}
+use Rattle.fiber_step.specs.declared.ask.DirectoryRef.TheVariants as place
 use Rattle.fiber_step.specs.declared.mark.End.{End}
 use Rattle.fiber_step.specs.declared.item.Item.{Item}
 use Rattle.fiber_step.specs.declared.item.Item.TheVariants as item
@@ -56,7 +56,7 @@ works_of nodes items = map (work_of nodes) (reverse items)
 
 -- ## Calls
 
-abbrev pub place_of : Place → model.Place
+abbrev pub place_of : DirectoryRef → model.DirectoryRef
 place_of (place.Declared number) = model.Declared number
 place_of (place.Opened number) = model.Opened number
 

@@ -10,7 +10,7 @@ use Rattle.spec_fiber.specs.Work.{Carry, restored}
 use Rattle.fiber_step.specs.Calling.{statement_at}
 use Rattle.fiber_step.specs.Going.{goes}
 use Rattle.fiber_step.specs.Having.{BeginsStatement}
-use Rattle.fiber_step.specs.Kept.{Kept}
+use Rattle.fiber_step.specs.Framing.{KeptFrames}
 use Rattle.fiber_step.specs.Placing.{ArePlaced}
 use Rattle.fiber_step.specs.Standing.{works_of}
 use Rattle.fiber_step.specs.Stepping.{IsStep, IsLight, HasBodies}
@@ -19,8 +19,8 @@ use Rattle.fiber_step.specs.Weighing.{weight_of_statement, weight}
 use Rattle.fiber_step.specs.declared.mark.Mark.TheVariants as mark
 use Rattle.fiber_step.specs.declared.step.Step.{Step}
 use Rattle.fiber_step.specs.declared.step.Step.TheVariants as step
-use Rattle.fiber_step.specs.declared.turn.Turn.{Turn}
-use Rattle.fiber_step.specs.declared.turn.Turn.TheVariants as turn
+use Rattle.fiber_step.specs.declared.progress.Progress.{Progress}
+use Rattle.fiber_step.specs.declared.progress.Progress.TheVariants as progress
 
 -- ## Lets before a form
 
@@ -46,7 +46,7 @@ pub record IsForm (nodes : List Node) (number form : ℕ) : Type 0 where
   pub last : slice_get nodes form ≡ Some node.LetForm → ⊥
 
 -- with the marks of so many `let`s
-abbrev pub binding : ℕ → Kept → Kept
+abbrev pub binding : ℕ → KeptFrames → KeptFrames
 binding zero kept = kept
 binding (suc n) kept = binding n (with_mark (mark.Bind (length kept.variables)) kept)
 
@@ -71,19 +71,19 @@ RaisesWithin texts (step.Raises text) = text.0 < texts
 RaisesWithin texts other = Unit {0}
 
 -- less work is left than the statement was
-abbrev pub IsLighterBy : List Node → (number : ℕ) → (old : Kept) → Turn → (new : Kept) → Type 0
-IsLighterBy nodes number old (turn.GoesOn it) new = weight (works_of nodes new.items) < weight_of_statement (statement_at nodes number) + weight (works_of nodes old.items)
-IsLighterBy nodes number old (turn.Calls call) new = Unit {0}
+abbrev pub IsLighterBy : List Node → (number : ℕ) → (old : KeptFrames) → Progress → (new : KeptFrames) → Type 0
+IsLighterBy nodes number old (progress.GoesOn it) new = weight (works_of nodes new.items) < weight_of_statement (statement_at nodes number) + weight (works_of nodes old.items)
+IsLighterBy nodes number old (progress.Calls call) new = Unit {0}
 
 -- the statement at this number comes to this
-pub record IsDone (nodes : List Node) (number : ℕ) (old : Kept) (it : Turn) (new : Kept) : Type 0 where
+pub record IsDone (nodes : List Node) (number : ℕ) (old : KeptFrames) (it : Progress) (new : KeptFrames) : Type 0 where
   pub next : (c : Carry) → goes (statement (statement_at nodes number) (restored old.variables c)) (works_of nodes old.items) ≡ next_behind nodes it new c
   pub placed : ArePlaced nodes old.items → ArePlaced nodes new.items
   pub lighter : IsLighterBy nodes number old it new
   pub bodies : HasItsBodies nodes it
 
 -- a step is done, of whatever statement it is
-abbrev pub IsDoneBy : Step → (old : Kept) → Turn → (new : Kept) → Type 0
+abbrev pub IsDoneBy : Step → (old : KeptFrames) → Progress → (new : KeptFrames) → Type 0
 IsDoneBy step old it new = (nodes : List Node) (number : ℕ) → IsStep nodes number old.variables step → HasBodies nodes step → IsLight nodes number step → IsDone nodes number old it new
 
 -- whether a step goes into a block at once

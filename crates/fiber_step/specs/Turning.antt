@@ -7,7 +7,7 @@ use Rattle.script_forms.specs.declared.node.Node.{Node}
 use Rattle.spec_fiber.specs.Replies.{passed}
 use Rattle.spec_fiber.specs.Settling.{Settled, answered}
 use Rattle.spec_fiber.specs.Work.{Carry, restored}
-use Rattle.fiber_step.specs.Kept.{Kept}
+use Rattle.fiber_step.specs.Framing.{KeptFrames}
 use Rattle.fiber_step.specs.Placing.{ArePlaced}
 use Rattle.fiber_step.specs.Standing.{ask_of, works_of}
 use Rattle.fiber_step.specs.Stepping.{HasBodiesOf}
@@ -15,11 +15,11 @@ use Rattle.fiber_step.specs.Weighing.{weight}
 use Rattle.fiber_step.specs.declared.item.Item.TheVariants as item
 use Rattle.fiber_step.specs.declared.mark.Mark.{Mark}
 use Rattle.fiber_step.specs.declared.mark.Mark.TheVariants as mark
-use Rattle.fiber_step.specs.declared.turn.Turn.{Turn}
-use Rattle.fiber_step.specs.declared.turn.Turn.TheVariants as turn
+use Rattle.fiber_step.specs.declared.progress.Progress.{Progress}
+use Rattle.fiber_step.specs.declared.progress.Progress.TheVariants as progress
 
 -- where a fiber stood before this mark was taken
-abbrev pub with_mark : Mark → Kept → Kept
+abbrev pub with_mark : Mark → KeptFrames → KeptFrames
 with_mark it kept = record kept { items = kept.items ++ item.Mark it ∷ [] }
 
 -- what a fiber's settling changes beside the fiber: the table of texts, and the number that the next raise has
@@ -32,50 +32,50 @@ abbrev pub carried : Shared → List Member → Carry
 carried shared raises = record { variables = []; texts = shared.texts; serial = shared.serial; raises = raises }
 
 -- the next call of a fiber that stands so and goes on with what came
-abbrev pub next_call : List Node → Outcome → Kept → Carry → Settled
+abbrev pub next_call : List Node → Outcome → KeptFrames → Carry → Settled
 next_call nodes came kept c = passed came (works_of nodes kept.items) (restored kept.variables c)
 
 -- the next call behind a turn
-abbrev pub next_behind : List Node → Turn → Kept → Carry → Settled
-next_behind nodes (turn.GoesOn it) kept c = answered (works_of nodes kept.items) it (restored kept.variables c)
-next_behind nodes (turn.Calls call) kept c = record { call = ask_of nodes call; behind = works_of nodes kept.items; carry = restored kept.variables c }
+abbrev pub next_behind : List Node → Progress → KeptFrames → Carry → Settled
+next_behind nodes (progress.GoesOn it) kept c = answered (works_of nodes kept.items) it (restored kept.variables c)
+next_behind nodes (progress.Calls call) kept c = record { call = ask_of nodes call; behind = works_of nodes kept.items; carry = restored kept.variables c }
 
 -- a turn that raises nothing and leaves the table as it is
-abbrev pub Turns : List Node → Outcome → (old : Kept) → Turn → (new : Kept) → Type 0
+abbrev pub Turns : List Node → Outcome → (old : KeptFrames) → Progress → (new : KeptFrames) → Type 0
 Turns nodes came old turn new = (c : Carry) → next_call nodes came old c ≡ next_behind nodes turn new c
 
 -- a turn that may raise, and may put a text into the table
-abbrev pub TurnsWith : List Node → Outcome → (old : Kept) → Shared → Turn → (new : Kept) → Shared → Type 0
+abbrev pub TurnsWith : List Node → Outcome → (old : KeptFrames) → Shared → Progress → (new : KeptFrames) → Shared → Type 0
 TurnsWith nodes came old shared turn new later =
     (raises : List Member) → (others : List Member) × (next_call nodes came old (carried shared raises) ≡ next_behind nodes turn new (carried later others))
 
 -- less silent work is left, where a turn makes no call
-abbrev pub IsLighter : List Node → (old : Kept) → Turn → (new : Kept) → Type 0
-IsLighter nodes old (turn.GoesOn it) new = weight (works_of nodes new.items) < weight (works_of nodes old.items)
-IsLighter nodes old (turn.Calls call) new = Unit {0}
+abbrev pub IsLighter : List Node → (old : KeptFrames) → Progress → (new : KeptFrames) → Type 0
+IsLighter nodes old (progress.GoesOn it) new = weight (works_of nodes new.items) < weight (works_of nodes old.items)
+IsLighter nodes old (progress.Calls call) new = Unit {0}
 
 -- the blocks of the call of a turn stand among the nodes
-abbrev pub HasItsBodies : List Node → Turn → Type 0
-HasItsBodies nodes (turn.GoesOn it) = Unit {0}
-HasItsBodies nodes (turn.Calls call) = HasBodiesOf nodes call
+abbrev pub HasItsBodies : List Node → Progress → Type 0
+HasItsBodies nodes (progress.GoesOn it) = Unit {0}
+HasItsBodies nodes (progress.Calls call) = HasBodiesOf nodes call
 
 -- before a block, with this mark at its end
-abbrev pub gone_into : (end : Mark) → (body : ℕ) → Kept → Kept
+abbrev pub gone_into : (end : Mark) → (body : ℕ) → KeptFrames → KeptFrames
 gone_into end body kept = record kept { items = (kept.items ++ item.Mark end ∷ []) ++ item.Mark (mark.Run body) ∷ [] }
 
 -- with the first variables alone, and with one more
-abbrev pub cut_to : (keep : ℕ) → Kept → Kept
+abbrev pub cut_to : (keep : ℕ) → KeptFrames → KeptFrames
 cut_to keep kept = record kept { variables = take keep kept.variables }
 
-abbrev pub naming : Value → Kept → Kept
+abbrev pub naming : Value → KeptFrames → KeptFrames
 naming it kept = record kept { variables = kept.variables ++ it ∷ [] }
 
-abbrev pub kept_to : Option ℕ → Kept → Kept
+abbrev pub kept_to : Option ℕ → KeptFrames → KeptFrames
 kept_to None kept = kept
 kept_to (Some keep) kept = cut_to keep kept
 
 -- what one turn does, that this comes to
-pub record IsTurn (nodes : List Node) (came : Outcome) (old : Kept) (it : Turn) (new : Kept) : Type 0 where
+pub record IsTurn (nodes : List Node) (came : Outcome) (old : KeptFrames) (it : Progress) (new : KeptFrames) : Type 0 where
   pub next : Turns nodes came old it new
   pub placed : ArePlaced nodes old.items → ArePlaced nodes new.items
   pub lighter : IsLighter nodes old it new
@@ -87,6 +87,6 @@ is_run (mark.Run at) = true
 is_run other = false
 
 -- before a handler, with these marks at its end and behind it, between which the fiber's own variables come back
-abbrev pub handling : (closing end : Mark) → (handler : ℕ) → (registered : List Value) → Kept → Kept
+abbrev pub handling : (closing end : Mark) → (handler : ℕ) → (registered : List Value) → KeptFrames → KeptFrames
 handling closing end handler registered kept =
     gone_into end handler (record { items = (kept.items ++ item.Mark closing ∷ []) ++ item.Restore kept.variables ∷ []; variables = registered })

@@ -7,7 +7,7 @@ use script_forms::{Forking, Group, ObjectCall, ObjectCallWith, PathCall, ReaderC
 
 /// A directory: a declared one, or the one that an opening answered, by its number.
 #[derive(Clone, Copy)]
-pub enum Place {
+pub enum DirectoryRef {
     Declared(u32),
     Opened(u64),
 }
@@ -103,18 +103,18 @@ pub enum Ask {
         text: TextId,
     },
     OpenDirectory {
-        place: Place,
+        place: DirectoryRef,
         path: TextId,
         body: u32,
     },
     OnPath {
         call: PathCall,
-        place: Place,
+        place: DirectoryRef,
         path: TextId,
     },
     Save {
         only_new: bool,
-        place: Place,
+        place: DirectoryRef,
         path: TextId,
         content: TextId,
     },
@@ -199,7 +199,7 @@ impl Ask {
     }
 
     /// A file that is written whole.
-    pub(crate) fn saving(only_new: bool, place: Place, path: TextId, content: TextId) -> Ask
+    pub(crate) fn saving(only_new: bool, place: DirectoryRef, path: TextId, content: TextId) -> Ask
         ensures { result ≡ Ask.Save only_new place path content }
     {
         Ask::Save {

@@ -11,13 +11,13 @@ ghost use Rattle.spec_fiber.specs.Evaluation.{value_at};
 
 use crate::ask::Ask;
 use crate::step::{Step, Stepped};
-use crate::variables::Scope;
+use crate::variables::InScope;
 use eio_value::Operands;
 use script_code::Script;
 use script_forms::Node;
 
 /// The step of a statement that calls, and has neither operands nor blocks. Other statements have none here.
-pub(crate) fn call_at_once(script: &Script, number: u32, variables: &Scope) -> Option<Stepped>
+pub(crate) fn call_at_once(script: &Script, number: u32, variables: &InScope) -> Option<Stepped>
     requires { BeginsStatement (nodes_of script.now) number }
     ensures { IsStepIf is_bare (nodes_of script.now) (length script.now.texts) number variables.now result }
 {
@@ -73,7 +73,7 @@ pub(crate) fn call_with_block(script: &Script, number: u32) -> Option<Stepped>
 }
 
 /// The step of a statement whose call hands a block on. Other statements have none here.
-pub(crate) fn call_with_job(script: &Script, number: u32, variables: &Scope) -> Option<Stepped>
+pub(crate) fn call_with_job(script: &Script, number: u32, variables: &InScope) -> Option<Stepped>
     requires { BeginsStatement (nodes_of script.now) number }
     ensures { IsStepIf hands_on (nodes_of script.now) (length script.now.texts) number variables.now result }
 {
@@ -113,7 +113,7 @@ pub(crate) fn call_with_job(script: &Script, number: u32, variables: &Scope) -> 
 }
 
 /// The values of some slots.
-fn values_of(slots: &[u32], variables: &Scope) -> Operands
+fn values_of(slots: &[u32], variables: &InScope) -> Operands
     requires { length slots.now ≤ most_captured }
     ensures { result ≡ map (value_at variables.now) slots.now }
 {

@@ -8,7 +8,7 @@ ghost use Rattle.std.specs.Prelude.{◌≡◌};
 use crate::fiber::Fiber;
 use crate::item::Item;
 use crate::mark::Mark;
-use crate::variables::Scope;
+use crate::variables::InScope;
 use eio_value::{NoMemory, Value};
 use std::alloc::Global;
 use std::marker::Model;
@@ -37,12 +37,12 @@ pub(crate) struct Changes {
 
 /// A fiber while it settles.
 #[derive(Drop)]
-pub(crate) struct Draft<'f> {
+pub(crate) struct FiberDraft<'f> {
     fiber: &'f Fiber,
     changes: Changes,
 }
 
-impl<'f> Model for Draft<'f> {
+impl<'f> Model for FiberDraft<'f> {
     ghost use Rattle.fiber_step.specs.Drafting.{Drafted, changed, IsWithin};
 
     ghost Value = { Drafted };
@@ -52,17 +52,17 @@ impl<'f> Model for Draft<'f> {
     ghost invariant = { λ inside. IsWithin inside.fiber.now inside.changes };
 }
 
-impl<'f> Draft<'f> {
+impl<'f> FiberDraft<'f> {
     ghost use Rattle.std.specs.Prelude.{◌++◌, ◌∷◌, [], take, length, IfOk, OnOk};
     ghost use Rattle.fiber_step.specs.Drafting.{Takes, changed};
     ghost use Rattle.fiber_step.specs.declared.item.Item.TheVariants as item;
     ghost use Rattle.fiber_step.specs.declared.draft.Taken.TheVariants as taken;
 
     /// A draft in which nothing has changed.
-    pub(crate) fn new(alloc: Global, fiber: &'f Fiber) -> Draft<'f>
+    pub(crate) fn new(alloc: Global, fiber: &'f Fiber) -> FiberDraft<'f>
         ensures { result ≡ record { fiber = fiber.now; now = fiber.now } }
     {
-        Draft {
+        FiberDraft {
             fiber,
             changes: Changes {
                 left: fiber.work().len(),
@@ -87,10 +87,10 @@ impl<'f> Draft<'f> {
     }
 
     /// The variables in scope.
-    pub(crate) fn scope(&self) -> Scope
+    pub(crate) fn scope(&self) -> InScope
         ensures { result ≡ self.now.now.variables }
     {
-        Scope::new(
+        InScope::new(
             &self.fiber.variables().as_slice()[..self.changes.kept],
             self.changes.values.as_slice(),
         )

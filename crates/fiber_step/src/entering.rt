@@ -6,7 +6,7 @@ ghost use Rattle.fiber_step.specs.Entering.{HasBranches};
 ghost use Rattle.fiber_step.specs.Having.{HasStatements};
 ghost use Rattle.fiber_step.specs.Placing.{ArePlaced};
 ghost use Rattle.fiber_step.specs.Stepping.{HasBranchBodies, HasBodiesOf};
-ghost use Rattle.fiber_step.specs.Kept.{position_of};
+ghost use Rattle.fiber_step.specs.Framing.{position_of};
 ghost use Rattle.fiber_step.specs.Standing.{ask_of, branches_at};
 ghost use Rattle.script_forms.specs.Flat.{nodes_of};
 ghost use Rattle.script_code.specs.Standing.{block_at};

@@ -5,7 +5,7 @@
 
 ghost use Rattle.std.specs.Prelude.{◌≡◌, ◌≤◌, ◌<◌, ◌+◌, List, [], ◌∷◌, ◌++◌, vec_len, vec_capacity};
 ghost use Rattle.fiber_step.specs.Having.{HasStatements};
-ghost use Rattle.fiber_step.specs.Kept.{position_of};
+ghost use Rattle.fiber_step.specs.Framing.{position_of};
 ghost use Rattle.fiber_step.specs.Placing.{ArePlaced};
 ghost use Rattle.script_code.specs.Standing.{block_at};
 ghost use Rattle.script_forms.specs.declared.node.Node.{Node};
@@ -29,9 +29,9 @@ pub struct Fiber {
 }
 
 impl Model for Fiber {
-    ghost use Rattle.fiber_step.specs.Kept.{Kept};
+    ghost use Rattle.fiber_step.specs.Framing.{KeptFrames};
 
-    ghost Value = { Kept };
+    ghost Value = { KeptFrames };
 
     ghost view = { λ inside. record { items = inside.work.items; variables = inside.variables } };
 }

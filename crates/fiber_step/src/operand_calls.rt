@@ -9,10 +9,10 @@ ghost use Rattle.script_forms.specs.Calls.{directory_of};
 ghost use Rattle.script_forms.specs.Flat.{nodes_of};
 ghost use Rattle.spec_fiber.specs.Silent.{place_in};
 
-use crate::ask::{Ask, Place};
+use crate::ask::{Ask, DirectoryRef};
 use crate::evaluation::{evaluate, evaluate_all, evaluate_number, evaluate_text};
 use crate::step::{Step, Stepped};
-use crate::variables::Scope;
+use crate::variables::InScope;
 use eio_value::Misuse;
 use script_code::Script;
 use script_forms::{Directory, Node};
@@ -21,7 +21,7 @@ use script_forms::{Directory, Node};
 pub(crate) fn call_with_operands(
     script: &Script,
     number: u32,
-    variables: &Scope,
+    variables: &InScope,
 ) -> Result<Option<Stepped>, Misuse>
     requires { BeginsStatement (nodes_of script.now) number }
     ensures { IsStepOrRaiseIf has_operands (nodes_of script.now) (length script.now.texts) number variables.now result }
@@ -61,7 +61,7 @@ pub(crate) fn call_with_operands(
 pub(crate) fn call_on_path(
     script: &Script,
     number: u32,
-    variables: &Scope,
+    variables: &InScope,
 ) -> Result<Option<Stepped>, Misuse>
     requires { BeginsStatement (nodes_of script.now) number }
     ensures { IsStepOrRaiseIf is_of_path (nodes_of script.now) (length script.now.texts) number variables.now result }
@@ -99,11 +99,11 @@ pub(crate) fn call_on_path(
 }
 
 /// The directory that a statement names.
-fn place(directory: Directory, variables: &Scope) -> Place
+fn place(directory: Directory, variables: &InScope) -> DirectoryRef
     ensures { place_of result ≡ place_in variables.now (directory_of directory) }
 {
     match directory {
-        Directory::Declared(number) => Place::Declared(number),
-        Directory::Opened(slot) => Place::Opened(variables.number(slot)),
+        Directory::Declared(number) => DirectoryRef::Declared(number),
+        Directory::Opened(slot) => DirectoryRef::Opened(variables.number(slot)),
     }
 }

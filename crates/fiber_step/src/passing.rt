@@ -4,9 +4,9 @@ ghost use Rattle.std.specs.Prelude.{◌≡◌};
 ghost use Rattle.spec_fiber.specs.Settling.{resource_of};
 
 use crate::ask::Ask;
-use crate::draft::Draft;
+use crate::draft::FiberDraft;
 use crate::mark::{End, Mark};
-use crate::turn::Turn;
+use crate::progress::Progress;
 use eio_value::{NoMemory, Outcome, Value};
 
 /// The resource that a pool gave. No pool gives another value, for which the greatest number stands.
@@ -19,7 +19,7 @@ fn resource_of(value: Value) -> u32
     }
 }
 
-impl<'f> Draft<'f> {
+impl<'f> FiberDraft<'f> {
     ghost use Rattle.std.specs.Prelude.{◌+◌, ◌<◌, ◌^◌, List, false, length, IfOk, OnOk};
     ghost use Rattle.eio_value.specs.declared.raised.Outcome.TheVariants as outcome;
     ghost use Rattle.eio_value.specs.declared.value.Value.{Value as Held};
@@ -30,7 +30,7 @@ impl<'f> Draft<'f> {
     ghost use Rattle.fiber_step.specs.declared.ask.Ask.TheVariants as ask;
     ghost use Rattle.eio_value.specs.declared.value.Value.TheVariants as held;
     ghost use Rattle.fiber_step.specs.declared.mark.Mark.TheVariants as mark;
-    ghost use Rattle.fiber_step.specs.declared.turn.Turn.TheVariants as turn;
+    ghost use Rattle.fiber_step.specs.declared.progress.Progress.TheVariants as progress;
 
     /// Goes before a block, with a mark at its end.
     ///
@@ -44,21 +44,21 @@ impl<'f> Draft<'f> {
     }
 
     /// The call of an end, which keeps the first variables alone, or all.
-    pub(crate) fn ended(&mut self, end: End) -> Turn
-        ensures call { result ≡ turn.Calls end.call }
+    pub(crate) fn ended(&mut self, end: End) -> Progress
+        ensures call { result ≡ progress.Calls end.call }
         ensures kept { self.new ≡ record self.old { now = kept_to end.keep self.old.now } }
     {
         if let Some(keep) = end.keep {
             self.cut(keep);
         }
-        Turn::Calls(end.call)
+        Progress::Calls(end.call)
     }
 
     /// What a mark does to which a value comes, but for the statements of a block.
     ///
     /// # Errors
     /// [`NoMemory`] where memory runs out.
-    pub(crate) fn pass(&mut self, mark: Mark, value: Value) -> Result<Turn, NoMemory>
+    pub(crate) fn pass(&mut self, mark: Mark, value: Value) -> Result<Progress, NoMemory>
         requires mark { is_run mark ≡ false }
         requires turns { HasFewTurns mark }
         ensures fiber { OnOk result (self.new.fiber ≡ self.old.fiber) }
@@ -72,7 +72,7 @@ impl<'f> Draft<'f> {
 
     /// The same of a mark that is no end with a call of its own.
     #[tactic(auto, using(crate::proofs::Passes::no_other_mark))]
-    fn pass_silent(&mut self, mark: Mark, value: Value) -> Result<Turn, NoMemory>
+    fn pass_silent(&mut self, mark: Mark, value: Value) -> Result<Progress, NoMemory>
         requires mark { is_run mark ≡ false }
         requires end { is_end mark ≡ false }
         requires turns { HasFewTurns mark }
@@ -97,32 +97,32 @@ impl<'f> Draft<'f> {
     }
 
     /// The end of a block that does nothing more.
-    fn cut_off(&mut self, keep: usize, value: Value) -> Turn
-        ensures turn { result ≡ turn.GoesOn value }
+    fn cut_off(&mut self, keep: usize, value: Value) -> Progress
+        ensures turn { result ≡ progress.GoesOn value }
         ensures kept { self.new ≡ record self.old { now = cut_to keep self.old.now } }
     {
         self.cut(keep);
-        Turn::GoesOn(value)
+        Progress::GoesOn(value)
     }
 
     /// A name for the value of a form.
-    fn bound(&mut self, slot: usize, value: Value) -> Result<Turn, NoMemory>
-        ensures turn { IfOk result (λ it. it ≡ turn.GoesOn held.Unit) }
+    fn bound(&mut self, slot: usize, value: Value) -> Result<Progress, NoMemory>
+        ensures turn { IfOk result (λ it. it ≡ progress.GoesOn held.Unit) }
         ensures bound { OnOk result (self.new ≡ record self.old { now = naming value (cut_to slot self.old.now) }) }
     {
         self.cut(slot);
         self.name(value)?;
-        Ok(Turn::GoesOn(Value::Unit))
+        Ok(Progress::GoesOn(Value::Unit))
     }
 
     /// A turn of a `loop`.
-    fn loop_again(&mut self, body: u32, keep: usize) -> Result<Turn, NoMemory>
-        ensures turn { IfOk result (λ it. it ≡ turn.Calls ask.Turn) }
+    fn loop_again(&mut self, body: u32, keep: usize) -> Result<Progress, NoMemory>
+        ensures turn { IfOk result (λ it. it ≡ progress.Calls ask.Turn) }
         ensures goes { OnOk result (self.new ≡ record self.old { now = gone_into (mark.Loop body keep) body (cut_to keep self.old.now) }) }
     {
         self.cut(keep);
         self.go_into(Mark::Loop { body, keep }, body)?;
-        Ok(Turn::Calls(Ask::Turn))
+        Ok(Progress::Calls(Ask::Turn))
     }
 
     /// A turn of a `repeat`, where one is left.
@@ -132,14 +132,14 @@ impl<'f> Draft<'f> {
         left: u64,
         body: u32,
         keep: usize,
-    ) -> Result<Turn, NoMemory>
+    ) -> Result<Progress, NoMemory>
         requires { turn + left < 2 ^ 63 }
         ensures fiber { OnOk result (self.new.fiber ≡ self.old.fiber) }
         ensures turn { IfOk result (λ it. (nodes : List Begun) (value : Held) → IsTurn nodes (outcome.Ok value) (with_mark (mark.Repeat turn left body keep) self.old.now) it self.new.now) }
     {
         self.cut(keep);
         if left == 0 {
-            return Ok(Turn::GoesOn(Value::Unit));
+            return Ok(Progress::GoesOn(Value::Unit));
         }
         self.name(Value::Int(turn as i64))?;
         let end = Mark::Repeat {
@@ -149,22 +149,22 @@ impl<'f> Draft<'f> {
             keep,
         };
         self.go_into(end, body)?;
-        Ok(Turn::Calls(Ask::Turn))
+        Ok(Progress::Calls(Ask::Turn))
     }
 
     /// The block begins once the mutex is had.
-    fn locked(&mut self, mutex: u32, body: u32, value: Value) -> Result<Turn, NoMemory>
-        ensures turn { IfOk result (λ it. it ≡ turn.GoesOn value) }
+    fn locked(&mut self, mutex: u32, body: u32, value: Value) -> Result<Progress, NoMemory>
+        ensures turn { IfOk result (λ it. it ≡ progress.GoesOn value) }
         ensures goes { OnOk result (self.new ≡ record self.old { now = gone_into (mark.Unlock mutex (length self.old.now.variables)) body self.old.now }) }
     {
         let keep = self.slots();
         self.go_into(Mark::Unlock { mutex, keep }, body)?;
-        Ok(Turn::GoesOn(value))
+        Ok(Progress::GoesOn(value))
     }
 
     /// The block begins once the resource is had, which it names.
-    fn given(&mut self, pool: u32, body: u32, value: Value) -> Result<Turn, NoMemory>
-        ensures turn { IfOk result (λ it. it ≡ turn.GoesOn value) }
+    fn given(&mut self, pool: u32, body: u32, value: Value) -> Result<Progress, NoMemory>
+        ensures turn { IfOk result (λ it. it ≡ progress.GoesOn value) }
         ensures goes { OnOk result (self.new ≡ record self.old { now = gone_into (mark.Put pool (resource_of value) (length self.old.now.variables)) body (naming value self.old.now) }) }
     {
         let keep = self.slots();
@@ -176,6 +176,6 @@ impl<'f> Draft<'f> {
             keep,
         };
         self.go_into(end, body)?;
-        Ok(Turn::GoesOn(value))
+        Ok(Progress::GoesOn(value))
     }
 }

@@ -12,14 +12,14 @@ ghost use Rattle.fiber_step.specs.Throwing.{shared_by, IsGrown, IsTurnWith};
 ghost use Rattle.script_forms.specs.Flat.{nodes_of};
 
 use crate::ask::Ask;
-use crate::draft::{Draft, Taken};
+use crate::draft::{FiberDraft, Taken};
 use crate::fiber::Fiber;
 use crate::mark::Mark;
-use crate::turn::Turn;
+use crate::progress::Progress;
 use eio_value::{NoMemory, Outcome, Raised, Texts, Value};
 use script_code::Script;
 
-impl<'f> Draft<'f> {
+impl<'f> FiberDraft<'f> {
     ghost use Rattle.eio_value.specs.declared.raised.Outcome.TheVariants as outcome;
     ghost use Rattle.fiber_step.specs.Turning.{with_mark};
 
@@ -33,7 +33,7 @@ impl<'f> Draft<'f> {
         value: Value,
         texts: &mut Texts,
         serial: &mut u64,
-    ) -> Result<Turn, NoMemory>
+    ) -> Result<Progress, NoMemory>
         requires items { ArePlaced (nodes_of script.now) self.old.now.items }
         requires texts { length script.now.texts ≤ length texts.old }
         ensures fiber { OnOk result (self.new.fiber ≡ self.old.fiber) }
@@ -41,8 +41,8 @@ impl<'f> Draft<'f> {
         ensures turn { IfOk result (λ it. IsTurnWith (nodes_of script.now) (outcome.Ok value) self.old.now (shared_by texts.old serial.old) it self.new.now (shared_by texts.new serial.new)) }
     {
         match self.take()? {
-            Taken::Nothing => Ok(Turn::Calls(Ask::End(Outcome::Ok(value)))),
-            Taken::Restored => Ok(Turn::GoesOn(value)),
+            Taken::Nothing => Ok(Progress::Calls(Ask::End(Outcome::Ok(value)))),
+            Taken::Restored => Ok(Progress::GoesOn(value)),
             Taken::Mark(mark) => self.take_mark(script, mark, value, texts, serial),
         }
     }
@@ -55,7 +55,7 @@ impl<'f> Draft<'f> {
         value: Value,
         texts: &mut Texts,
         serial: &mut u64,
-    ) -> Result<Turn, NoMemory>
+    ) -> Result<Progress, NoMemory>
         requires mark { IsPlacedMark (nodes_of script.now) mark }
         requires texts { length script.now.texts ≤ length texts.old }
         ensures fiber { OnOk result (self.new.fiber ≡ self.old.fiber) }
@@ -90,8 +90,8 @@ impl<'f> Draft<'f> {
         let mut value = first;
         'turns: loop {
             match self.turn(script, value, texts, serial)? {
-                Turn::GoesOn(next) => value = next,
-                Turn::Calls(call) => return Ok(call),
+                Progress::GoesOn(next) => value = next,
+                Progress::Calls(call) => return Ok(call),
             }
         }
     }
@@ -140,8 +140,8 @@ impl<'f> Draft<'f> {
         ensures bodies { IfOk result (λ call. HasBodiesOf (nodes_of script.now) call) }
     {
         match self.throw(raised, texts)? {
-            Turn::GoesOn(value) => self.go_on(script, value, texts, serial),
-            Turn::Calls(call) => Ok(call),
+            Progress::GoesOn(value) => self.go_on(script, value, texts, serial),
+            Progress::Calls(call) => Ok(call),
         }
     }
 }
@@ -198,7 +198,7 @@ impl Fiber {
         ensures serial { OnErr result (serial.new ≡ serial.old) }
     {
         let mut next = *serial;
-        let mut draft = Draft::new(self.alloc(), self);
+        let mut draft = FiberDraft::new(self.alloc(), self);
         let settled = draft.settle(script, texts, &mut next, came);
         if settled.is_err() {
             return settled;

@@ -12,7 +12,7 @@ ghost use Rattle.spec_fiber.specs.Silent.{is_zero};
 use crate::ask::Ask;
 use crate::evaluation::{evaluate, evaluate_number};
 use crate::step::{Step, Stepped};
-use crate::variables::Scope;
+use crate::variables::InScope;
 use eio_value::{Misuse, Value};
 use script_code::Script;
 use script_forms::{Group, Node};
@@ -78,7 +78,7 @@ fn without_branches(group: Group) -> Step
 pub(crate) fn step_within(
     script: &Script,
     number: u32,
-    variables: &Scope,
+    variables: &InScope,
 ) -> Result<Stepped, Misuse>
     requires statement { BeginsStatement (nodes_of script.now) number }
     requires silent { (n : Begun) → slice_get (nodes_of script.now) number ≡ Some n → is_silent n ≡ true }

@@ -6,11 +6,11 @@ ghost use Rattle.fiber_step.specs.Stating.{IsForm};
 ghost use Rattle.script_forms.specs.Flat.{nodes_of};
 
 use crate::ask::Ask;
-use crate::draft::Draft;
+use crate::draft::FiberDraft;
 use crate::evaluation::evaluate;
 use crate::mark::Mark;
 use crate::step::{Step, Stepped, step_at};
-use crate::turn::Turn;
+use crate::progress::Progress;
 use eio_value::{NoMemory, Plain, Texts, Value};
 use script_code::Script;
 use script_forms::{Node, ObjectCall};
@@ -27,7 +27,7 @@ fn form_of(script: &Script, number: u32) -> u32
     form
 }
 
-impl<'f> Draft<'f> {
+impl<'f> FiberDraft<'f> {
     ghost use Rattle.eio_value.specs.declared.raised.Outcome.TheVariants as outcome;
     ghost use Rattle.eio_value.specs.declared.value.Value.{Value as Held};
     ghost use Rattle.std.specs.Prelude.{◌+◌, ℕ, true};
@@ -64,7 +64,7 @@ impl<'f> Draft<'f> {
         at: u32,
         texts: &mut Texts,
         serial: &mut u64,
-    ) -> Result<Turn, NoMemory>
+    ) -> Result<Progress, NoMemory>
         requires statements { HasStatements (nodes_of script.now) at }
         requires texts { length script.now.texts ≤ length texts.old }
         ensures fiber { OnOk result (self.new.fiber ≡ self.old.fiber) }
@@ -72,7 +72,7 @@ impl<'f> Draft<'f> {
         ensures turn { IfOk result (λ it. (value : Held) → IsTurnWith (nodes_of script.now) (outcome.Ok value) (with_mark (mark.Run at) self.old.now) (shared_by texts.old serial.old) it self.new.now (shared_by texts.new serial.new)) }
     {
         match script.node(at) {
-            Node::End => Ok(Turn::GoesOn(Value::Unit)),
+            Node::End => Ok(Progress::GoesOn(Value::Unit)),
             Node::Give => self.give(script, at, texts, serial),
             _ => self.state(script, at, form_of(script, at), texts, serial),
         }
@@ -85,7 +85,7 @@ impl<'f> Draft<'f> {
         at: u32,
         texts: &mut Texts,
         serial: &mut u64,
-    ) -> Result<Turn, NoMemory>
+    ) -> Result<Progress, NoMemory>
         requires within { at + 1 < 2 ^ 32 }
         requires gives { Stands (nodes_of script.now) at node.Give }
         requires operand { HasExpression (nodes_of script.now) (at + 1) }
@@ -94,7 +94,7 @@ impl<'f> Draft<'f> {
         ensures turn { IfOk result (λ it. (value : Held) → IsTurnWith (nodes_of script.now) (outcome.Ok value) (with_mark (mark.Run at) self.old.now) (shared_by texts.old serial.old) it self.new.now (shared_by texts.new serial.new)) }
     {
         match evaluate(script, at + 1, &self.scope()) {
-            Ok(operand) => Ok(Turn::GoesOn(operand.value)),
+            Ok(operand) => Ok(Progress::GoesOn(operand.value)),
             Err(why) => self.raise(Plain::Invalid(why), texts, serial),
         }
     }
@@ -107,7 +107,7 @@ impl<'f> Draft<'f> {
         form: u32,
         texts: &mut Texts,
         serial: &mut u64,
-    ) -> Result<Turn, NoMemory>
+    ) -> Result<Progress, NoMemory>
         requires form { IsForm (nodes_of script.now) at form }
         requires first { NoGive (nodes_of script.now) at }
         requires texts { length script.now.texts ≤ length texts.old }
@@ -129,7 +129,7 @@ impl<'f> Draft<'f> {
         stepped: Stepped,
         texts: &mut Texts,
         serial: &mut u64,
-    ) -> Result<Turn, NoMemory>
+    ) -> Result<Progress, NoMemory>
         requires lets { at ≤ form }
         requires step { IsLastStep stepped.step }
         requires text { RaisesWithin (length texts.old) stepped.step }
@@ -146,35 +146,35 @@ impl<'f> Draft<'f> {
     }
 
     /// What a statement comes to that raises nothing.
-    fn go_by(&mut self, step: Step) -> Result<Turn, NoMemory>
+    fn go_by(&mut self, step: Step) -> Result<Progress, NoMemory>
         requires { IsSilentStep step }
         ensures fiber { OnOk result (self.new.fiber ≡ self.old.fiber) }
         ensures done { IfOk result (λ it. IsDoneBy step self.old.now it self.new.now) }
     {
         match step {
-            Step::Past(value) => Ok(Turn::GoesOn(value)),
+            Step::Past(value) => Ok(Progress::GoesOn(value)),
             Step::Named(value) => {
                 self.name(value)?;
-                Ok(Turn::GoesOn(Value::Unit))
+                Ok(Progress::GoesOn(Value::Unit))
             }
-            Step::Calls(call) => Ok(Turn::Calls(call)),
+            Step::Calls(call) => Ok(Progress::Calls(call)),
             Step::Locks { mutex, body } => {
                 self.push(Mark::Locking { mutex, body })?;
-                Ok(Turn::Calls(Ask::OnObject {
+                Ok(Progress::Calls(Ask::OnObject {
                     call: ObjectCall::Lock,
                     object: mutex,
                 }))
             }
             Step::Uses { pool, body } => {
                 self.push(Mark::Using { pool, body })?;
-                Ok(Turn::Calls(Ask::Use { pool }))
+                Ok(Progress::Calls(Ask::Use { pool }))
             }
             _ => self.enter_by(step),
         }
     }
 
     /// The same where it goes into a block.
-    fn enter_by(&mut self, step: Step) -> Result<Turn, NoMemory>
+    fn enter_by(&mut self, step: Step) -> Result<Progress, NoMemory>
         requires silent { IsSilentStep step }
         requires enters { is_entering step ≡ true }
         ensures fiber { OnOk result (self.new.fiber ≡ self.old.fiber) }
@@ -184,15 +184,15 @@ impl<'f> Draft<'f> {
         match step {
             Step::Block { body } => {
                 self.go_into(Mark::Cut { keep }, body)?;
-                Ok(Turn::GoesOn(Value::Unit))
+                Ok(Progress::GoesOn(Value::Unit))
             }
             Step::Tried { tried, handler } => {
                 self.go_into(Mark::Try { handler, keep }, tried)?;
-                Ok(Turn::GoesOn(Value::Unit))
+                Ok(Progress::GoesOn(Value::Unit))
             }
             Step::Looped { body } => {
                 self.go_into(Mark::Loop { body, keep }, body)?;
-                Ok(Turn::Calls(Ask::Turn))
+                Ok(Progress::Calls(Ask::Turn))
             }
             Step::Repeated { left, body } => {
                 self.name(Value::Int(0))?;
@@ -203,7 +203,7 @@ impl<'f> Draft<'f> {
                     keep,
                 };
                 self.go_into(end, body)?;
-                Ok(Turn::Calls(Ask::Turn))
+                Ok(Progress::Calls(Ask::Turn))
             }
             _ => unreachable!(),
         }

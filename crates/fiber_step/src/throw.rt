@@ -5,9 +5,9 @@ ghost use Rattle.eio_value.specs.Exceptions.{bound_text, HasTextsOfRaised};
 ghost use Rattle.eio_value.specs.Table.{intern};
 
 use crate::ask::Ask;
-use crate::draft::Draft;
+use crate::draft::FiberDraft;
 use crate::mark::Mark;
-use crate::turn::Turn;
+use crate::progress::Progress;
 use eio_value::{Member, NoMemory, Outcome, Plain, Raised, TextId, Texts, Value, show_raised};
 use std::alloc::Global;
 
@@ -53,7 +53,7 @@ fn bound_id(alloc: Global, texts: &mut Texts, raised: &Raised) -> Result<TextId,
     texts.intern(bytes.as_slice())
 }
 
-impl<'f> Draft<'f> {
+impl<'f> FiberDraft<'f> {
     ghost use Rattle.std.specs.Prelude.{true, false, OnOk};
     ghost use Rattle.eio_value.specs.Exceptions.{HasTextsOfPlain};
     ghost use Rattle.eio_value.specs.declared.raised.Outcome.TheVariants as outcome;
@@ -68,7 +68,7 @@ impl<'f> Draft<'f> {
     ///
     /// # Errors
     /// [`NoMemory`] where memory runs out.
-    pub(crate) fn throw(&mut self, raised: &Raised, texts: &mut Texts) -> Result<Turn, NoMemory>
+    pub(crate) fn throw(&mut self, raised: &Raised, texts: &mut Texts) -> Result<Progress, NoMemory>
         requires { HasTextsOfRaised texts.old raised.now }
         ensures fiber { OnOk result (self.new.fiber ≡ self.old.fiber) }
         ensures grown { IsGrown texts.old texts.new }
@@ -76,7 +76,7 @@ impl<'f> Draft<'f> {
     {
         let came = Outcome::Err(*raised);
         let Some(mark) = self.unwind()? else {
-            return Ok(Turn::Calls(Ask::End(came)));
+            return Ok(Progress::Calls(Ask::End(came)));
         };
         match mark.end(&came) {
             Some(end) => Ok(self.ended(end)),
@@ -85,7 +85,7 @@ impl<'f> Draft<'f> {
     }
 
     /// The second block of a `try`, which names the text of the exception.
-    fn caught(&mut self, mark: Mark, raised: &Raised, texts: &mut Texts) -> Result<Turn, NoMemory>
+    fn caught(&mut self, mark: Mark, raised: &Raised, texts: &mut Texts) -> Result<Progress, NoMemory>
         requires stops { stops mark ≡ true }
         requires end { is_end mark ≡ false }
         requires texts { HasTextsOfRaised texts.old raised.now }
@@ -100,7 +100,7 @@ impl<'f> Draft<'f> {
         self.cut(keep);
         self.name(Value::Text(text))?;
         self.go_into(Mark::Cut { keep }, handler)?;
-        Ok(Turn::GoesOn(Value::Unit))
+        Ok(Progress::GoesOn(Value::Unit))
     }
 
     /// A new raise, with the next number.
@@ -112,7 +112,7 @@ impl<'f> Draft<'f> {
         what: Plain,
         texts: &mut Texts,
         serial: &mut u64,
-    ) -> Result<Turn, NoMemory>
+    ) -> Result<Progress, NoMemory>
         requires { HasTextsOfPlain texts.old what }
         ensures fiber { OnOk result (self.new.fiber ≡ self.old.fiber) }
         ensures grown { IsGrown texts.old texts.new }

@@ -2,11 +2,11 @@
 
 ghost use Rattle.std.specs.Prelude.{◌≡◌};
 
-use crate::draft::{Draft, Taken};
+use crate::draft::{FiberDraft, Taken};
 use crate::mark::Mark;
 use eio_value::NoMemory;
 
-impl<'f> Draft<'f> {
+impl<'f> FiberDraft<'f> {
     ghost use Rattle.std.specs.Prelude.{IfOk, OnOk};
     ghost use Rattle.fiber_step.specs.Unwinding.{stopped, IsDropped, IsStop};
 

@@ -82,12 +82,12 @@ impl Variables {
 
 /// The variables in scope while a fiber settles: the first of those that it had, and those that came since.
 #[derive(Drop)]
-pub struct Scope<'v> {
+pub struct InScope<'v> {
     kept: &'v [Value],
     since: &'v [Value],
 }
 
-impl<'v> Model for Scope<'v> {
+impl<'v> Model for InScope<'v> {
     ghost use Rattle.std.specs.Prelude.{List, ◌++◌};
     ghost use Rattle.eio_value.specs.declared.value.Value.{Value as Held};
 
@@ -96,15 +96,15 @@ impl<'v> Model for Scope<'v> {
     ghost view = { λ inside. inside.kept.now ++ inside.since.now };
 }
 
-impl<'v> Scope<'v> {
+impl<'v> InScope<'v> {
     ghost use Rattle.std.specs.Prelude.{◌++◌, length};
     ghost use Rattle.spec_fiber.specs.Evaluation.{value_at, number_at};
 
     /// These, and those behind them.
-    pub fn new(kept: &'v [Value], since: &'v [Value]) -> Scope<'v>
+    pub fn new(kept: &'v [Value], since: &'v [Value]) -> InScope<'v>
         ensures { result ≡ kept.now ++ since.now }
     {
-        Scope { kept, since }
+        InScope { kept, since }
     }
 
     /// How many slots there are.

@@ -49,7 +49,7 @@ use Rattle.law_run.proofs.Settling.{With}
 use Rattle.law_run.proofs.Rows.{AllAnswer}
 use Rattle.law_run.proofs.Outside.{ExtraIs}
 use Rattle.law_run.proofs.Standings.{DutyFits, Stands, head_stands, back_stands, parked_stands, made_stands, ends_stands, woken_if_stands, all_single}
-use Rattle.law_run.proofs.Raising.{Kept, telling, more, is_born, new_stands, does_kept, answers_kept, goes_off_kept, enters_stands, in_new_kept}
+use Rattle.law_run.proofs.Raising.{StepKeeps, telling, more, is_born, new_stands, does_kept, answers_kept, goes_off_kept, enters_stands, in_new_kept}
 
 -- the calls that may raise what was raised before
 abbrev pub awaits : Ask → Bool
@@ -83,14 +83,14 @@ module _ (P : Member → Type 0) (kinds : ℕ → Bool) (s : ℕ) where
   goes_on_is (Some it) given all = all
 
   goes_on_kept : (call : Ask) (it : Did) (reply : Said2) → AllDid P it → AllReply P reply → (given : Value) (g : ℕ) (l : DomainState) → AllCall P call → Stands P kinds s l
-      → Kept P kinds s (steps.told g it reply (to_head (GoesOn (on_objects.goes_on_with (passing call) given)) g l))
+      → StepKeeps P kinds s (steps.told g it reply (to_head (GoesOn (on_objects.goes_on_with (passing call) given)) g l))
   goes_on_kept call it reply d r given g l all h = telling P kinds s _ refl d r (head_stands P kinds s (GoesOn (on_objects.goes_on_with (passing call) given)) g l (goes_on_is (passing call) given (passing_is call all)) h)
 
-  answered_with_kept : (call : Ask) (it : Did) (reply : Said2) → AllDid P it → AllReply P reply → (given : Value) (g : ℕ) (l : DomainState) → AllCall P call → Stands P kinds s l → Kept P kinds s (on_objects.answered_with call it reply given g l)
+  answered_with_kept : (call : Ask) (it : Did) (reply : Said2) → AllDid P it → AllReply P reply → (given : Value) (g : ℕ) (l : DomainState) → AllCall P call → Stands P kinds s l → StepKeeps P kinds s (on_objects.answered_with call it reply given g l)
   answered_with_kept (ask.End result) it reply d r given g l all h = telling P kinds s _ refl d r (ends_stands P kinds s result g l all h)
   answered_with_kept call it reply d r given g l all h = goes_on_kept call it reply d r given g l all h
 
-  nothing_done_kept : (call : Ask) (it : Did) → AllDid P it → (g : ℕ) (l : DomainState) → AllCall P call → Stands P kinds s l → Kept P kinds s (on_objects.nothing_done call it g l)
+  nothing_done_kept : (call : Ask) (it : Did) → AllDid P it → (g : ℕ) (l : DomainState) → AllCall P call → Stands P kinds s l → StepKeeps P kinds s (on_objects.nothing_done call it g l)
   nothing_done_kept (ask.Submit executor weight given block) it d g l all h = telling P kinds s _ refl (none P) (none P) h
   nothing_done_kept call it d g l all h = answered_with_kept call it said.Nothing d (none P) value.Unit g l all h
 
@@ -164,9 +164,9 @@ module _ (P : Member → Type 0) (kinds : ℕ → Bool) (s : ℕ) where
   -- ## Answers of objects
 
   -- what is raised under the counter's number
-  raised_new : (what : Plain) (raised : Raised) (it : Did) → AllDid P it → (g : ℕ) (l : DomainState) → raised ≡ One (member what l) → Stands P kinds s l → Kept P kinds s (steps.raises_given it raised g l)
+  raised_new : (what : Plain) (raised : Raised) (it : Did) → AllDid P it → (g : ℕ) (l : DomainState) → raised ≡ One (member what l) → Stands P kinds s l → StepKeeps P kinds s (steps.raises_given it raised g l)
   raised_new what raised it d g l alone h =
-      subst (λ r. Kept P kinds s (steps.raises_given it r g l)) (sym alone) (record {
+      subst (λ r. StepKeeps P kinds s (steps.raises_given it r g l)) (sym alone) (record {
         born = Some (member what l);
         to = s + 1;
         range = is_born P kinds s what l h;
@@ -176,7 +176,7 @@ module _ (P : Member → Type 0) (kinds : ℕ → Bool) (s : ℕ) where
       })
 
   raised_kept : (call : Ask) (what : Plain) (raised : Raised) (it : Did) → AllDid P it → (g : ℕ) (l : DomainState) → (awaits call ≡ true → AllRaised P raised) → (awaits call ≡ false → raised ≡ One (member what l)) → Stands P kinds s l
-      → Kept P kinds s (on_objects.raised_for call it raised g l)
+      → StepKeeps P kinds s (on_objects.raised_for call it raised g l)
   raised_kept (ask.OnObject syntax.Await object) what raised it d g l old new h = answers_kept P kinds s it d (outcome.Err raised) g l (old refl) h
   raised_kept call what raised it d g l old new h = raised_new what raised it d g l (new refl) h
 
@@ -186,7 +186,7 @@ module _ (P : Member → Type 0) (kinds : ℕ → Bool) (s : ℕ) where
 
   pub answered_kept : (call : Ask) (role : Role) (it : Did) → AllDid P it → (asked : Asked) (what : Plain) (given : Answer) (g : ℕ) (l : DomainState) → AllCall P call
       → (awaits call ≡ true → AllAnswer P (AllRaised P) P given) → (awaits call ≡ false → AllAnswer P (λ raised. raised ≡ One (member what l)) P given) → IfDone given (ResolvesNoMutex (resolves call)) → Stands P kinds s l
-      → Kept P kinds s (on_objects.answered_by call role it asked given g l)
+      → StepKeeps P kinds s (on_objects.answered_by call role it asked given g l)
   answered_kept call role it d asked what (answer.Done given) g l all old new fits h = answered_with_kept call it (said.Done given) d (none P) given g (on_objects.owing call role given g l) all (owing_stands call role given g l fits h)
   answered_kept call role it d asked what answer.Waits g l all old new fits h = telling P kinds s _ refl d (none P) (parked_stands P kinds s (OnObject asked.who) g (on_objects.owing_wait call g l) (none P) (owing_wait_stands call g l h))
   answered_kept call role it d asked what answer.Off g l all old new fits h = goes_off_kept P kinds s it d g l h
@@ -230,7 +230,7 @@ module _ (P : Member → Type 0) (kinds : ℕ → Bool) (s : ℕ) where
   wakes_by_bytes_stands writer [] l h = h
   wakes_by_bytes_stands writer (b ∷ bytes) l h = wakes_copier_stands writer l h
 
-  opens_writer_kept : (call : Ask) (number : ℕ) (it : Said) (g : ℕ) (l : DomainState) → Stands P kinds s l → Kept P kinds s (on_mocks.opens_writer call number it g l)
+  opens_writer_kept : (call : Ask) (number : ℕ) (it : Said) (g : ℕ) (l : DomainState) → Stands P kinds s l → StepKeeps P kinds s (on_mocks.opens_writer call number it g l)
   opens_writer_kept call number it g l h =
       in_new_kept P kinds s (on_contexts.protected_of l g).number (on_contexts.protected_of l g).contexts g l (λ c m. (
       let new = length m.fibers in
@@ -243,25 +243,25 @@ module _ (P : Member → Type 0) (kinds : ℕ → Bool) (s : ℕ) where
       (into_stands call number g t (made_stands P kinds s c (OfWriter number) (record { work = []; variables = [] }) m k))))
 
   by_passing_kept : (passed : Option Outcome) (given : Value) (it : Said) (g : ℕ) (l : DomainState) → AllResult P passed → Stands P kinds s l
-      → Kept P kinds s (elim passed as (λ _. Step) [
+      → StepKeeps P kinds s (elim passed as (λ _. Step) [
         | Some result ↦ steps.told g (did.Mock it) (said.Done given) (to_head (GoesOn result) g l)
         | None ↦ steps.answers (did.Mock it) (outcome.Ok given) g l
       ])
   by_passing_kept None given it g l all h = answers_kept P kinds s (did.Mock it) (none P) (outcome.Ok given) g l (none P) h
   by_passing_kept (Some result) given it g l all h = telling P kinds s _ refl (none P) (none P) (head_stands P kinds s (GoesOn result) g l all h)
 
-  done_kept : (call : Ask) (given : Value) (it : Said) (g : ℕ) (l : DomainState) → AllCall P call → Stands P kinds s l → Kept P kinds s (on_mocks.done_by call given it g l)
+  done_kept : (call : Ask) (given : Value) (it : Said) (g : ℕ) (l : DomainState) → AllCall P call → Stands P kinds s l → StepKeeps P kinds s (on_mocks.done_by call given it g l)
   done_kept (ask.OpenReader flow limit block) given it g l all h = telling P kinds s _ refl (none P) (none P) (into_stands (ask.OpenReader flow limit block) (number_in given) g l h)
   done_kept (ask.OpenDirectory place path block) given it g l all h = telling P kinds s _ refl (none P) (none P) (into_stands (ask.OpenDirectory place path block) (number_in given) g l h)
   done_kept (ask.OpenWriter flow block) given it g l all h = opens_writer_kept (ask.OpenWriter flow block) (number_in given) it g l h
   done_kept (ask.PutText writer text) given it g l all h = answers_kept P kinds s (did.Mock it) (none P) (outcome.Ok given) g (on_mocks.wakes_by_bytes writer (text_at l.texts text) l) (none P) (wakes_by_bytes_stands writer (text_at l.texts text) l h)
   done_kept call given it g l all h = by_passing_kept (passing call) given it g l (passing_is call all) h
 
-  waits_by_kept : (call : Ask) (g : ℕ) (l : DomainState) → AllCall P call → Stands P kinds s l → Kept P kinds s (on_mocks.waits_by call g l)
+  waits_by_kept : (call : Ask) (g : ℕ) (l : DomainState) → AllCall P call → Stands P kinds s l → StepKeeps P kinds s (on_mocks.waits_by call g l)
   waits_by_kept (ask.ShutWriter writer result) g l all h = telling P kinds s _ refl (none P) (none P) (parked_stands P kinds s (ForOthers (ask.ShutWriter writer result)) g (on_mocks.wakes_copier writer l) all (wakes_copier_stands writer l h))
   waits_by_kept call g l all h = telling P kinds s _ refl (none P) (none P) (parked_stands P kinds s (ForOthers call) g l all h)
 
-  pub mock_answered_kept : (call : Ask) (given : Extra) (g : ℕ) (l : DomainState) → AllCall P call → ExtraIs l.serial given → Stands P kinds s l → Kept P kinds s (on_mocks.mock_answered call given g l)
+  pub mock_answered_kept : (call : Ask) (given : Extra) (g : ℕ) (l : DomainState) → AllCall P call → ExtraIs l.serial given → Stands P kinds s l → StepKeeps P kinds s (on_mocks.mock_answered call given g l)
   mock_answered_kept call (extra.Done given it) g l all is h = done_kept call given it g l all h
   mock_answered_kept call (extra.More it) g l all is h = telling P kinds s _ refl (none P) (none P) (head_stands P kinds s (CallsAgain call) g l all h)
   mock_answered_kept call extra.Back g l all is h = telling P kinds s _ refl (none P) (none P) (back_stands P kinds s (CallsAgain call) g l all h)
@@ -269,7 +269,7 @@ module _ (P : Member → Type 0) (kinds : ℕ → Bool) (s : ℕ) where
   mock_answered_kept call (extra.Raised raised it) g l all is h =
       raised_new is.what raised (did.Mock it) (none P) g l is.alone h
 
-  pub carried_kept : (writer : ℕ) (given : Extra) (g : ℕ) (l : DomainState) → Stands P kinds s l → Kept P kinds s (on_mocks.carried_by writer given g l)
+  pub carried_kept : (writer : ℕ) (given : Extra) (g : ℕ) (l : DomainState) → Stands P kinds s l → StepKeeps P kinds s (on_mocks.carried_by writer given g l)
   carried_kept writer (extra.More it) g l h = telling P kinds s _ refl (none P) (none P) (head_stands P kinds s (GoesOn (outcome.Ok value.Unit)) g l (none P) h)
   carried_kept writer (extra.Done given it) g l h =
       let t : DomainState = on_ends.ends (outcome.Ok value.Unit) g l in
@@ -278,7 +278,7 @@ module _ (P : Member → Type 0) (kinds : ℕ → Bool) (s : ℕ) where
 
   -- ## Strikes
 
-  pub strike_kept : (duty : Duty) (g : ℕ) (won : Bool) (l : DomainState) → Stands P kinds s l → Kept P kinds s (on_duties.strike_told duty g won l)
+  pub strike_kept : (duty : Duty) (g : ℕ) (won : Bool) (l : DomainState) → Stands P kinds s l → StepKeeps P kinds s (on_duties.strike_told duty g won l)
   strike_kept duty g true l h =
       let what : Plain = unwrap_or (off_for l g) Exit in
       record {
@@ -291,7 +291,7 @@ module _ (P : Member → Type 0) (kinds : ℕ → Bool) (s : ℕ) where
       }
   strike_kept duty g false l h = telling P kinds s _ refl (none P) (none P) h
 
-  pub own_strike_kept : (duty : Duty) (g : ℕ) (standing : Standing) (l : DomainState) → Stands P kinds s l → Kept P kinds s (on_duties.own_strike duty g standing l)
+  pub own_strike_kept : (duty : Duty) (g : ℕ) (standing : Standing) (l : DomainState) → Stands P kinds s l → StepKeeps P kinds s (on_duties.own_strike duty g standing l)
   own_strike_kept duty g (Parked Asleep) l h = strike_kept duty g true (record l { timers = remove g l.timers }) h
   own_strike_kept duty g (Parked ForCancel) l h = strike_kept duty g true l h
   own_strike_kept duty g standing l h = strike_kept duty g false l h

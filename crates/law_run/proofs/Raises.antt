@@ -38,7 +38,7 @@ use Rattle.law_run.proofs.Settling.{BornIn, With}
 use Rattle.law_run.proofs.Rows.{is_mutex, is_await, is_wake, raises_of, raise_of, InBrought, AllAnswer, Finds, StepIs, called_is}
 use Rattle.law_run.proofs.Outside.{outside_is}
 use Rattle.law_run.proofs.Standings.{DutyFits, Stands, all_single}
-use Rattle.law_run.proofs.Raising.{Kept, telling, more, new_stands, is_born, own_call_kept, tick_kept}
+use Rattle.law_run.proofs.Raising.{StepKeeps, telling, more, new_stands, is_born, own_call_kept, tick_kept}
 use Rattle.law_run.proofs.Answering.{ask_is, awaits, resolves, ResolvesNoMutex, IfDone, answered_kept, AllMine, received_stands, mock_answered_kept, carried_kept, strike_kept, own_strike_kept}
 use Rattle.law_run.proofs.Preparing.{Prepares, DoingIs, prepared_prepares}
 use Rattle.law_run.proofs.Sharing.{kinds_of, set_kinds, strike_kinds, ResolvesAt, OnThis, AskedBy, AsksNothing, AsksObject, AsksOutside, fiber_asks, resolves_no_mutex, is_woken, wakes_or_is_silent, RowIs, Shares, row_is, Sends, mine_is, call_shares, strike_shares}
@@ -67,7 +67,7 @@ module _ (P : Member → Type 0) (kinds : ℕ → Bool) (script : Script) (m : M
     pub reply : AllReply (With P born) moved.line.reply
     pub same_kinds : (n : ℕ) → kinds_of moved.next.shared.rows n ≡ kinds_of m.shared.rows n
 
-  ends_with : (stamp : ℕ) (came : Came) (step : Step) → raises_by before came.label step ≡ before ++ step.raises → (kept : Kept P kinds l.serial step) → Shares (With P kept.born) came.shared → ((n : ℕ) → kinds_of came.shared.rows n ≡ kinds_of m.shared.rows n)
+  ends_with : (stamp : ℕ) (came : Came) (step : Step) → raises_by before came.label step ≡ before ++ step.raises → (kept : StepKeeps P kinds l.serial step) → Shares (With P kept.born) came.shared → ((n : ℕ) → kinds_of came.shared.rows n ≡ kinds_of m.shared.rows n)
       → Ends (moved_by m stamp before came step)
   ends_with stamp came step all kept shares same = record {
     raises = step.raises;
@@ -82,11 +82,11 @@ module _ (P : Member → Type 0) (kinds : ℕ → Bool) (script : Script) (m : M
   }
 
   -- nothing that is shared changes
-  ends_alone : (stamp : ℕ) (came : Came) (step : Step) → raises_by before came.label step ≡ before ++ step.raises → came.shared ≡ m.shared → Kept P kinds l.serial step → Shares P m.shared → Ends (moved_by m stamp before came step)
+  ends_alone : (stamp : ℕ) (came : Came) (step : Step) → raises_by before came.label step ≡ before ++ step.raises → came.shared ≡ m.shared → StepKeeps P kinds l.serial step → Shares P m.shared → Ends (moved_by m stamp before came step)
   ends_alone stamp came step all same kept shares =
       ends_with stamp came step all kept (subst (Shares (With P kept.born)) (sym same) (shares_more P kept.born m.shared shares)) (λ n. ap (λ (shared : SharedState). kinds_of shared.rows n) same)
 
-  abbrev with_message_kept : (mine : Option Message) (step : Step) (kept : Kept P kinds l.serial step) → AllMine (With P kept.born) kinds kept.to mine → Kept P kinds l.serial (with_message script mine step)
+  abbrev with_message_kept : (mine : Option Message) (step : Step) (kept : StepKeeps P kinds l.serial step) → AllMine (With P kept.born) kinds kept.to mine → StepKeeps P kinds l.serial (with_message script mine step)
   with_message_kept mine step kept all =
       record { born = kept.born; to = kept.to; range = kept.range; stands = received_stands (With P kept.born) kinds kept.to script mine step.state all kept.stands; call = kept.call; reply = kept.reply }
 
@@ -108,7 +108,7 @@ module _ (P : Member → Type 0) (kinds : ℕ → Bool) (script : Script) (m : M
   sends_more born (Some (Resumes who outcome)) all = λ x i. more P born x (all x i)
 
   -- by what is known of the object's step, and of the domain's before the message
-  call_ends : (stamp : ℕ) (asked : Asked) (step : Step) (kept : Kept P kinds l.serial step) → RowIs P (step_of asked).row → is_mutex (step_of asked).row.values ≡ kinds_of m.shared.rows asked.object
+  call_ends : (stamp : ℕ) (asked : Asked) (step : Step) (kept : StepKeeps P kinds l.serial step) → RowIs P (step_of asked).row → is_mutex (step_of asked).row.values ≡ kinds_of m.shared.rows asked.object
       → Sends (With P kept.born) (step_of asked).sent → Shares P m.shared
       → Ends (moved_by m stamp before (came_of stamp asked) (with_message script (mine_of m.local.number stamp (step_of asked).sent) step))
   call_ends stamp asked step kept row same sent shares =
@@ -176,7 +176,7 @@ module _ (P : Member → Type 0) (kinds : ℕ → Bool) (script : Script) (m : M
   fiber_call_ends : (stamp : ℕ) (asked : Ask) (g object : ℕ) (it : Call) → OnThis asked object it → KindsAre → AllCall P asked → Stands P kinds l.serial l → Shares P m.shared
       → Ends (moved_by m stamp before (came_of stamp (asked_of g object it)) (stepped_by script (record { doing = doing.Calls g asked; state = l; raises = before }) (came_of stamp (asked_of g object it)).label m.local))
   fiber_call_ends stamp asked g object it on are all h shares =
-      let kept : Kept P kinds l.serial (object_answered asked (asked_of g object it) (step_at g object it).answer g l) =
+      let kept : StepKeeps P kinds l.serial (object_answered asked (asked_of g object it) (step_at g object it).answer g l) =
       answered_kept P kinds l.serial asked (fiber_at l.fibers g).role (did_ask asked (fiber_at l.fibers g).role) (ask_is P kinds l.serial asked (fiber_at l.fibers g).role all) (asked_of g object it) (raises_of (row_at m.shared.rows object).values) (step_at g object it).answer g l all
       (all_answered asked g object it on all shares) (new_answered asked g object it on all shares) (done_fits asked g object it on are (step_at g object it).answer refl) h
       in
@@ -216,14 +216,14 @@ module _ (P : Member → Type 0) (kinds : ℕ → Bool) (script : Script) (m : M
       called_is P (λ raised. Unit {0}) P (row_at m.shared.rows object) (wait_of l maker) (is_some (off_for l maker)) l.serial (call.NextWake object)
       (duty_finds P object (call.NextWake object) (λ x i. i) refl (λ x i. i) (λ wake kind. no_mutex (agrees object fits) kind) shares)
       in
-      let kept : Kept P kinds l.serial (on_duties.wake_told (record { maker = maker; owed = Wake object false }) object false given l) = told given in
+      let kept : StepKeeps P kinds l.serial (on_duties.wake_told (record { maker = maker; owed = Wake object false }) object false given l) = told given in
       call_ends stamp (asked_of maker object (call.NextWake object)) _ kept is.values is.same_kind (sends_more kept.born (step_at maker object (call.NextWake object)).sent is.sent) shares
     where
       no_mutex : (kinds_of m.shared.rows object ≡ false) ⊎ ((x : Member) → P x) → is_mutex (row_at m.shared.rows object).values ≡ true → P (raise_of l.serial (Mutex hold.Poisoned))
       no_mutex (inl none) mutex = absurd (true≢false (sym mutex ∙ none))
       no_mutex (inr all) mutex = all (raise_of l.serial (Mutex hold.Poisoned))
 
-      told : (given : Answer) → Kept P kinds l.serial (on_duties.wake_told (record { maker = maker; owed = Wake object false }) object false given l)
+      told : (given : Answer) → StepKeeps P kinds l.serial (on_duties.wake_told (record { maker = maker; owed = Wake object false }) object false given l)
       told (answer.Woke who) = telling P kinds l.serial _ refl (none P) (none P) (stays_stands P l.serial (record { maker = maker; owed = Wake object false }) l fits h)
       told other = telling P kinds l.serial _ refl (none P) (none P) h
 
@@ -276,11 +276,11 @@ module _ (P : Member → Type 0) (kinds : ℕ → Bool) (script : Script) (m : M
       called_is P (λ raised. Unit {0}) P (row_at m.shared.rows executor) (wait_of l maker) (is_some (off_for l maker)) l.serial (call.NextStart executor)
       (duty_finds P executor (call.NextStart executor) (λ x i. i) refl (λ x i. i) (λ wake kind. absurd (true≢false (sym wake))) shares)
       in
-      let kept : Kept P kinds l.serial (on_duties.start_told (record { maker = maker; owed = Start executor }) executor given l) = told given in
+      let kept : StepKeeps P kinds l.serial (on_duties.start_told (record { maker = maker; owed = Start executor }) executor given l) = told given in
       call_ends stamp (asked_of maker executor (call.NextStart executor)) (on_duties.start_told (record { maker = maker; owed = Start executor }) executor given l) kept is.values is.same_kind
       (sends_more kept.born (step_at maker executor (call.NextStart executor)).sent is.sent) shares
     where
-      told : (given : Answer) → Kept P kinds l.serial (on_duties.start_told (record { maker = maker; owed = Start executor }) executor given l)
+      told : (given : Answer) → StepKeeps P kinds l.serial (on_duties.start_told (record { maker = maker; owed = Start executor }) executor given l)
       told (answer.Started domain number) = telling P kinds l.serial _ refl (none P) (none P) (stays_stands P l.serial (record { maker = maker; owed = Start executor }) l tt h)
       told other = telling P kinds l.serial _ refl (none P) (none P) h
 
@@ -310,7 +310,7 @@ module _ (P : Member → Type 0) (kinds : ℕ → Bool) (script : Script) (m : M
   strike_ends : (maker g : ℕ) (standing : Standing) → Stands P kinds l.serial l → Shares P m.shared → EndsIf (moved_if (strike_of maker g) (asking.strike_on standing))
   strike_ends maker g (Parked (OnObject who)) h shares =
       let won : Bool = strike_wins m.shared who in
-      let kept : Kept P kinds l.serial (on_duties.strike_told (record { maker = maker; owed = Strike g }) g won l) = strike_kept P kinds l.serial (record { maker = maker; owed = Strike g }) g won l h in
+      let kept : StepKeeps P kinds l.serial (on_duties.strike_told (record { maker = maker; owed = Strike g }) g won l) = strike_kept P kinds l.serial (record { maker = maker; owed = Strike g }) g won l h in
       ends_with (m.local.stamp + 1) (record { label = Struck who won; shared = after_strike m.shared who won; world = m.world }) _ refl kept
       (strike_shares (With P kept.born) m.shared who won (shares_more P kept.born m.shared shares)) (strike_kinds m.shared who won)
   strike_ends maker g (Parked Asleep) h shares = own_strike_ends maker g h shares

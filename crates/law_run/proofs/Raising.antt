@@ -60,7 +60,7 @@ stands_more P kinds s born l h = (
 
 module _ (P : Member → Type 0) (kinds : ℕ → Bool) (s : ℕ) where
   -- after a move that began with the counter at s: what stood there, and at most one new exception
-  pub record Kept (step : Step) : Type 0 where
+  pub record StepKeeps (step : Step) : Type 0 where
     pub born : Option Member
     pub to : ℕ
     pub range : BornIn s step.raises to born
@@ -69,7 +69,7 @@ module _ (P : Member → Type 0) (kinds : ℕ → Bool) (s : ℕ) where
     pub reply : AllReply (With P born) step.reply
 
   -- nothing is raised, and the line tells what stood there
-  pub telling : (step : Step) → step.raises ≡ [] → AllDid P step.did → AllReply P step.reply → Stands P kinds s step.state → Kept step
+  pub telling : (step : Step) → step.raises ≡ [] → AllDid P step.did → AllReply P step.reply → Stands P kinds s step.state → StepKeeps step
   telling step none call reply h = record { born = None; to = s; range = (subst (λ raises. AreNumbered s raises s) (sym none) refl, tt); stands = h; call = call; reply = reply }
 
   pub reply_is : (result : Outcome) → AllOutcome P result → AllReply P (steps.reply_of result)
@@ -88,7 +88,7 @@ module _ (P : Member → Type 0) (kinds : ℕ → Bool) (s : ℕ) where
 
   -- ## The parts of moves
 
-  pub raises_kept : (it : Did) → AllDid P it → (what : Plain) (g : ℕ) (l : DomainState) → Stands P kinds s l → Kept (steps.raises it what g l)
+  pub raises_kept : (it : Did) → AllDid P it → (what : Plain) (g : ℕ) (l : DomainState) → Stands P kinds s l → StepKeeps (steps.raises it what g l)
   raises_kept it call what g l h = record {
     born = Some (member what l);
     to = s + 1;
@@ -98,7 +98,7 @@ module _ (P : Member → Type 0) (kinds : ℕ → Bool) (s : ℕ) where
     reply = all_one (With P (Some (member what l))) (member what l) (inr refl);
   }
 
-  pub raises_cancelled_kept : (it : Did) → AllDid P it → (what : Plain) (g : ℕ) (l : DomainState) → Stands P kinds s l → Kept (steps.raises_cancelled it what g l)
+  pub raises_cancelled_kept : (it : Did) → AllDid P it → (what : Plain) (g : ℕ) (l : DomainState) → Stands P kinds s l → StepKeeps (steps.raises_cancelled it what g l)
   raises_cancelled_kept it call what g l h = record {
     born = Some (member what l);
     to = s + 1;
@@ -108,68 +108,68 @@ module _ (P : Member → Type 0) (kinds : ℕ → Bool) (s : ℕ) where
     reply = all_cancelled (With P (Some (member what l))) (member what l) (inr refl);
   }
 
-  pub answers_kept : (it : Did) → AllDid P it → (result : Outcome) (g : ℕ) (l : DomainState) → AllOutcome P result → Stands P kinds s l → Kept (steps.answers it result g l)
+  pub answers_kept : (it : Did) → AllDid P it → (result : Outcome) (g : ℕ) (l : DomainState) → AllOutcome P result → Stands P kinds s l → StepKeeps (steps.answers it result g l)
   answers_kept it call result g l all h = telling _ refl call (reply_is result all) (head_stands P kinds s (GoesOn result) g l all h)
 
-  pub does_kept : (it : Did) → AllDid P it → (g : ℕ) (l : DomainState) → Stands P kinds s l → Kept (steps.does it g l)
+  pub does_kept : (it : Did) → AllDid P it → (g : ℕ) (l : DomainState) → Stands P kinds s l → StepKeeps (steps.does it g l)
   does_kept it call g l h = answers_kept it call (outcome.Ok value.Unit) g l (none P) h
 
-  pub goes_off_kept : (it : Did) → AllDid P it → (g : ℕ) (l : DomainState) → Stands P kinds s l → Kept (steps.goes_off it g l)
+  pub goes_off_kept : (it : Did) → AllDid P it → (g : ℕ) (l : DomainState) → Stands P kinds s l → StepKeeps (steps.goes_off it g l)
   goes_off_kept it call g l h = telling _ refl call (none P) (back_stands P kinds s FindsOff g l (none P) h)
 
-  pub waits_kept : (it : Did) → AllDid P it → (wait : Wait) (g : ℕ) (l : DomainState) → AllWait P wait → Stands P kinds s l → Kept (steps.waits it wait g l)
+  pub waits_kept : (it : Did) → AllDid P it → (wait : Wait) (g : ℕ) (l : DomainState) → AllWait P wait → Stands P kinds s l → StepKeeps (steps.waits it wait g l)
   waits_kept it call wait g l all h = telling _ refl call (none P) (parked_stands P kinds s wait g l all h)
 
   pub enters_stands : (position : Position) (g : ℕ) (l : DomainState) → Stands P kinds s l → Stands P kinds s (to_head (GoesOn (outcome.Ok value.Unit)) g (placed position g l))
   enters_stands position g l h = head_stands P kinds s (GoesOn (outcome.Ok value.Unit)) g (placed position g l) (none P) (placed_stands P kinds s position g l h)
 
-  pub enters_kept : (it : Did) (reply : Said2) → AllDid P it → AllReply P reply → (context : ℕ) (position : Position) (g : ℕ) (l : DomainState) → Stands P kinds s l → Kept (on_contexts.enters_context it reply context position g l)
+  pub enters_kept : (it : Did) (reply : Said2) → AllDid P it → AllReply P reply → (context : ℕ) (position : Position) (g : ℕ) (l : DomainState) → Stands P kinds s l → StepKeeps (on_contexts.enters_context it reply context position g l)
   enters_kept it reply call tells context position g l h = telling _ refl call tells (enters_stands position g (moved_to context g l) (moved_stands P kinds s context g l h))
 
   pub in_new_kept : (number : Option ℕ) (all : List contexts.Context) (g : ℕ) (l : DomainState) (then : ℕ → DomainState → Step) → Stands P kinds s l
-      → ((c : ℕ) (m : DomainState) → Stands P kinds s m → Kept (then c m))
-      → Kept (steps.in_new (record { number = number; contexts = all }) g l then)
+      → ((c : ℕ) (m : DomainState) → Stands P kinds s m → StepKeeps (then c m))
+      → StepKeeps (steps.in_new (record { number = number; contexts = all }) g l then)
   in_new_kept None all g l then h kept = telling _ refl (none P) (none P) h
   in_new_kept (Some c) all g l then h kept = kept c _ h
 
-  if_kept : (b : Bool) (one other : Step) → Kept one → Kept other → Kept (elim b as (λ _. Step) [ true ↦ one | false ↦ other ])
+  if_kept : (b : Bool) (one other : Step) → StepKeeps one → StepKeeps other → StepKeeps (elim b as (λ _. Step) [ true ↦ one | false ↦ other ])
   if_kept true one other h k = h
   if_kept false one other h k = k
 
-  if_off_kept : (off : Option Plain) (one : Plain → Step) (other : Step) → ((why : Plain) → Kept (one why)) → Kept other → Kept (elim off as (λ _. Step) [ Some why ↦ one why | None ↦ other ])
+  if_off_kept : (off : Option Plain) (one : Plain → Step) (other : Step) → ((why : Plain) → StepKeeps (one why)) → StepKeeps other → StepKeeps (elim off as (λ _. Step) [ Some why ↦ one why | None ↦ other ])
   if_off_kept None one other h k = k
   if_off_kept (Some why) one other h k = h why
 
   -- ## Contexts
 
-  subs_kept : (call : Ask) (g : ℕ) (l : DomainState) → Stands P kinds s l → Kept (on_contexts.subs call g l)
+  subs_kept : (call : Ask) (g : ℕ) (l : DomainState) → Stands P kinds s l → StepKeeps (on_contexts.subs call g l)
   subs_kept call g l h =
       if_off_kept (off_for l g) _ _ (λ why. raises_cancelled_kept _ (none P) why g l h)
       (in_new_kept (on_contexts.sub_of l g).number (on_contexts.sub_of l g).contexts g l (λ c m. on_contexts.enters_context did.Sub (said.Done (value.Ctx c)) c (on_contexts.before_block call c g m) g m) h (λ c m k. enters_kept _ _ (none P) (none P) c (on_contexts.before_block call c g m) g m k))
 
-  protects_kept : (call : Ask) (g : ℕ) (l : DomainState) → Stands P kinds s l → Kept (on_contexts.protects call g l)
+  protects_kept : (call : Ask) (g : ℕ) (l : DomainState) → Stands P kinds s l → StepKeeps (on_contexts.protects call g l)
   protects_kept call g l h = in_new_kept (on_contexts.protected_of l g).number (on_contexts.protected_of l g).contexts g l (λ c m. on_contexts.enters_context did.Protect (said.Done (value.Ctx c)) c (on_contexts.before_block call c g m) g m) h (λ c m k. enters_kept _ _ (none P) (none P) c (on_contexts.before_block call c g m) g m k)
 
-  left_kept : (c : ℕ) (late : Bool) (it : Outcome) (g : ℕ) (l : DomainState) → AllOutcome P it → Stands P kinds s l → Kept (on_contexts.left_with c late it g l)
+  left_kept : (c : ℕ) (late : Bool) (it : Outcome) (g : ℕ) (l : DomainState) → AllOutcome P it → Stands P kinds s l → StepKeeps (on_contexts.left_with c late it g l)
   left_kept c true (outcome.Ok it) g l all h = raises_kept _ (none P) (Invalid SwitchFinished) g l h
   left_kept c false (outcome.Ok it) g l all h = telling _ refl (none P) (none P) (head_stands P kinds s (GoesOn (outcome.Ok it)) g l all h)
   left_kept c true (outcome.Err raised) g l all h = answers_kept _ (none P) (outcome.Err raised) g l all h
   left_kept c false (outcome.Err raised) g l all h = answers_kept _ (none P) (outcome.Err raised) g l all h
 
-  leave_kept : (c : ℕ) (late : Bool) (it : Outcome) (g : ℕ) (l : DomainState) → AllOutcome P it → Stands P kinds s l → Kept (on_contexts.leave c late it g l)
+  leave_kept : (c : ℕ) (late : Bool) (it : Outcome) (g : ℕ) (l : DomainState) → AllOutcome P it → Stands P kinds s l → StepKeeps (on_contexts.leave c late it g l)
   leave_kept c late it g l all h = left_kept c late it g (on_contexts.leaves c g l) all (leaves_stands P kinds s c g l h)
 
-  cancel_kept : (c : ℕ) (text : TextId) (g : ℕ) (l : DomainState) → Stands P kinds s l → Kept (on_contexts.cancel c text g l)
+  cancel_kept : (c : ℕ) (text : TextId) (g : ℕ) (l : DomainState) → Stands P kinds s l → StepKeeps (on_contexts.cancel c text g l)
   cancel_kept c text g l h =
       if_kept (contexts.is_live l.contexts c) (steps.does (did.Cancel c text) g (steps.cancels g c (Failure text) l)) (steps.raises (did.Cancel c text) (Invalid ContextFinished) g l)
       (does_kept _ (none P) g _ (cancels_stands P kinds s g c (Failure text) l h)) (raises_kept _ (none P) (Invalid ContextFinished) g l h)
 
-  check_kept : (g : ℕ) (l : DomainState) → Stands P kinds s l → Kept (on_contexts.check g l)
+  check_kept : (g : ℕ) (l : DomainState) → Stands P kinds s l → StepKeeps (on_contexts.check g l)
   check_kept g l h = if_off_kept (off_for l g) _ _ (λ why. raises_cancelled_kept _ (none P) why g l h) (does_kept _ (none P) g l h)
 
   -- ## Switches
 
-  switch_kept : (call : Ask) (g : ℕ) (l : DomainState) → Stands P kinds s l → Kept (on_switches.switch call g l)
+  switch_kept : (call : Ask) (g : ℕ) (l : DomainState) → Stands P kinds s l → StepKeeps (on_switches.switch call g l)
   switch_kept call g l h =
       if_off_kept (off_for l g) _ _ (λ why. raises_cancelled_kept _ (none P) why g l h)
       (in_new_kept (on_contexts.sub_of l g).number (on_contexts.sub_of l g).contexts g l (λ c m. on_contexts.enters_context did.Switch (said.Done (value.Switch (length l.switches))) c (on_contexts.before_block call (length l.switches) g m) g (on_switches.opens c m)) h
@@ -181,7 +181,7 @@ module _ (P : Member → Type 0) (kinds : ℕ → Bool) (s : ℕ) where
   fork_is syntax.Daemon n = none P
   fork_is (syntax.Promising promise) n = none P
 
-  makes_kept : (forking : Forking) (n : ℕ) (block : Block) (g : ℕ) (l : DomainState) → Stands P kinds s l → Kept (on_switches.makes forking n block g l)
+  makes_kept : (forking : Forking) (n : ℕ) (block : Block) (g : ℕ) (l : DomainState) → Stands P kinds s l → StepKeeps (on_switches.makes forking n block g l)
   makes_kept forking n block g l h =
       let new = length l.fibers in
       let switch : Switch = switches.switch_at l.switches n in
@@ -191,12 +191,12 @@ module _ (P : Member → Type 0) (kinds : ℕ → Bool) (s : ℕ) where
       let m : Stands P kinds s u = with_switch_stands P kinds s n _ t (attached_is P kinds s new (on_switches.is_daemon forking) switch (switch_is P kinds s n l h)) k in
       telling _ refl (fork_is forking n) (none P) (head_stands P kinds s (GoesOn (outcome.Ok value.Unit)) new (to_head (GoesOn (outcome.Ok value.Unit)) g u) (none P) (head_stands P kinds s (GoesOn (outcome.Ok value.Unit)) g u (none P) m))
 
-  fork_kept : (forking : Forking) (n : ℕ) (block : Block) (g : ℕ) (l : DomainState) → Stands P kinds s l → Kept (on_switches.fork forking n block g l)
+  fork_kept : (forking : Forking) (n : ℕ) (block : Block) (g : ℕ) (l : DomainState) → Stands P kinds s l → StepKeeps (on_switches.fork forking n block g l)
   fork_kept forking n block g l h =
       if_kept (switches.refuses_forks l.contexts (switches.switch_at l.switches n)) _ _ (telling _ refl (fork_is forking n) (none P) (head_stands P kinds s (GoesOn (outcome.Ok value.Unit)) g l (none P) h))
       (if_kept (is_full_by 1 l.fibers) _ _ (telling _ refl (none P) (none P) h) (makes_kept forking n block g l h))
 
-  fail_kept : (n : ℕ) (text : TextId) (g : ℕ) (l : DomainState) → Stands P kinds s l → Kept (on_switches.fail n text g l)
+  fail_kept : (n : ℕ) (text : TextId) (g : ℕ) (l : DomainState) → Stands P kinds s l → StepKeeps (on_switches.fail n text g l)
   fail_kept n text g l h =
       let x : Member = member (Failure text) l in
       if_kept (switches.switch_at l.switches n).finished _ _ (raises_kept _ (none P) (Invalid SwitchFinished) g l h)
@@ -210,11 +210,11 @@ module _ (P : Member → Type 0) (kinds : ℕ → Bool) (s : ℕ) where
         reply = none (With P (Some x));
       })
 
-  release_kept : (call : Ask) (n : ℕ) (block : Block) (g : ℕ) (l : DomainState) → Stands P kinds s l → Kept (on_switches.release call n block g l)
+  release_kept : (call : Ask) (n : ℕ) (block : Block) (g : ℕ) (l : DomainState) → Stands P kinds s l → StepKeeps (on_switches.release call n block g l)
   release_kept call n block g l h = by (switches.switch_at l.switches n) (switch_is P kinds s n l h) (switches.switch_at l.switches n).finished
     where
       by : (switch : Switch) → SwitchIs P kinds s switch → (finished : Bool)
-          → Kept (elim (elim finished as (λ _. Option Switch) [ true ↦ None | false ↦ Some (record switch { fresh = switch.fresh ++ record { block = number_of block; values = (fiber_at l.fibers g).variables } ∷ [] }) ]) as (λ _. Step) [
+          → StepKeeps (elim (elim finished as (λ _. Option Switch) [ true ↦ None | false ↦ Some (record switch { fresh = switch.fresh ++ record { block = number_of block; values = (fiber_at l.fibers g).variables } ∷ [] }) ]) as (λ _. Step) [
             | Some changed ↦ steps.does (did.OnRelease n) g (on_switches.with_switch_at n changed l)
             | None ↦ steps.in_new (on_contexts.protected_of l g) g l (λ c m. on_contexts.enters_context (did.OnRelease n) said.Handler c (on_contexts.before_block call c g m) g m)
           ])
@@ -225,7 +225,7 @@ module _ (P : Member → Type 0) (kinds : ℕ → Bool) (s : ℕ) where
           does_kept (did.OnRelease n) (none P) g (on_switches.with_switch_at n changed l) (with_switch_stands P kinds s n changed l is h)
 
   closed_kept : (script : Script) (call : Ask) (n c : ℕ) (kept : Value) (step : CloseStep) (g : ℕ) (l : DomainState) → AllCall P (again call) → CloseIs P kinds s step → Stands P kinds s l
-      → Kept (on_switches.closed_by script call n c kept step g l)
+      → StepKeeps (on_switches.closed_by script call n c kept step g l)
   closed_kept script call n c kept switches.Wait g l all is h = waits_kept _ (none P) (ForOthers (again call)) g l all h
   closed_kept script call n c kept switches.CancelDaemons g l all is h = waits_kept _ (none P) (ForOthers (again call)) g _ all (cancels_stands P kinds s g c Exit l h)
   closed_kept script call n c kept (switches.RunHandler handler) g l all is h =
@@ -240,7 +240,7 @@ module _ (P : Member → Type 0) (kinds : ℕ → Bool) (s : ℕ) where
   fails_with_stands maker n (Some what) l all h = fails_stands P kinds s maker n what l all h
 
   close_kept : (script : Script) (n : ℕ) (came : Option Raised) (kept : Value) (g : ℕ) (l : DomainState) → AllErrors P came → Stands P kinds s l
-      → Kept (on_switches.close script (ask.Close n came kept) n came kept g l)
+      → StepKeeps (on_switches.close script (ask.Close n came kept) n came kept g l)
   close_kept script n came kept g l all h =
       let t : DomainState = on_switches.fails_with g n came l in
       let k : Stands P kinds s t = fails_with_stands g n came l all h in
@@ -266,7 +266,7 @@ module _ (P : Member → Type 0) (kinds : ℕ → Bool) (s : ℕ) where
   first_is domain first zero = none P
   first_is domain first (suc count) = none P
 
-  branches_kept : (call : Ask) (kind : syntax.Group) (blocks : List Block) (g : ℕ) (l : DomainState) → Stands P kinds s l → Kept (on_groups.branches call kind blocks g l)
+  branches_kept : (call : Ask) (kind : syntax.Group) (blocks : List Block) (g : ℕ) (l : DomainState) → Stands P kinds s l → StepKeeps (on_groups.branches call kind blocks g l)
   branches_kept call kind blocks g l h =
       if_off_kept (off_for l g) _ _ (λ why. raises_cancelled_kept _ (branch_is kind (on_contexts.context_of l g)) why g l h)
       (if_kept (is_full_by (length blocks - 1) l.fibers) _ _ (telling _ refl (none P) (none P) h)
@@ -283,12 +283,12 @@ module _ (P : Member → Type 0) (kinds : ℕ → Bool) (s : ℕ) where
   own_ended_stands n None g l all h = h
   own_ended_stands n (Some result) g l all h = branch_ended_stands P kinds s n result g l all h
 
-  joined_kept : (call : Ask) (c : ℕ) (step : groups.JoinStep) (g : ℕ) (l : DomainState) → AllCall P (again call) → JoinIs P kinds s step → Stands P kinds s l → Kept (on_groups.joined_by call c step g l)
+  joined_kept : (call : Ask) (c : ℕ) (step : groups.JoinStep) (g : ℕ) (l : DomainState) → AllCall P (again call) → JoinIs P kinds s step → Stands P kinds s l → StepKeeps (on_groups.joined_by call c step g l)
   joined_kept call c groups.Wait g l all is h = waits_kept _ (none P) (ForOthers (again call)) g l all h
   joined_kept call c (groups.Give it) g l all is h = answers_kept _ (none P) (outcome.Ok it) g _ (none P) (leaves_stands P kinds s c g l h)
   joined_kept call c (groups.Raise raised) g l all is h = answers_kept _ (none P) (outcome.Err raised) g _ is (leaves_stands P kinds s c g l h)
 
-  joins_kept : (n : ℕ) (own : Option Outcome) (g : ℕ) (l : DomainState) → AllResult P own → Stands P kinds s l → Kept (on_groups.joins (ask.Join n own) n own g l)
+  joins_kept : (n : ℕ) (own : Option Outcome) (g : ℕ) (l : DomainState) → AllResult P own → Stands P kinds s l → StepKeeps (on_groups.joins (ask.Join n own) n own g l)
   joins_kept n own g l all h =
       let t : DomainState = on_groups.own_ended n own g l in
       let k : Stands P kinds s t = own_ended_stands n own g l all h in
@@ -298,7 +298,7 @@ module _ (P : Member → Type 0) (kinds : ℕ → Bool) (s : ℕ) where
 
   -- ## The clock
 
-  sleep_kept : (time : ℤ) (g : ℕ) (l : DomainState) → Stands P kinds s l → Kept (on_clock.sleep time g l)
+  sleep_kept : (time : ℤ) (g : ℕ) (l : DomainState) → Stands P kinds s l → StepKeeps (on_clock.sleep time g l)
   sleep_kept time g l h =
       if_kept (int_lt time (pos 1)) _ _ (telling _ refl (none P) (none P) (back_stands P kinds s LooksUp g l (none P) h))
       (if_kept (is_within (l.now +ℤ time)) _ _
@@ -309,14 +309,14 @@ module _ (P : Member → Type 0) (kinds : ℕ → Bool) (s : ℕ) where
   wakes_stands [] l h = h
   wakes_stands (g ∷ fibers) l h = wakes_stands fibers _ (back_stands P kinds s (GoesOn (outcome.Ok value.Unit)) g l (none P) h)
 
-  pub tick_kept : (l : DomainState) → Stands P kinds s l → Kept (on_clock.tick l)
+  pub tick_kept : (l : DomainState) → Stands P kinds s l → StepKeeps (on_clock.tick l)
   tick_kept l h =
       let time = unwrap_or (earliest l.timers) l.now in
       telling _ refl (none P) (none P) (wakes_stands (due_fibers time l.timers) (record l { now = time; timers = record (l.timers) { standing = filter (λ timer. not (is_due time timer)) l.timers.standing } }) h)
 
   -- ## A fiber's own call
 
-  pub own_call_kept : (script : Script) (call : Ask) (g : ℕ) (l : DomainState) → AllCall P call → Stands P kinds s l → Kept (own_call script call g l)
+  pub own_call_kept : (script : Script) (call : Ask) (g : ℕ) (l : DomainState) → AllCall P call → Stands P kinds s l → StepKeeps (own_call script call g l)
   unfolding own_call
   own_call_kept script (ask.Trace values) g l all h = does_kept _ (none P) g l h
   own_call_kept script ask.Yield g l all h = telling _ refl (none P) (none P) (back_stands P kinds s LooksUp g l (none P) h)

@@ -11,17 +11,17 @@ use Rattle.spec_parts.specs.Mutexes.{mutex}
 use Rattle.spec_parts.specs.Objects.{called}
 use Rattle.spec_parts.specs.Row.{Row, Queued, Stepped}
 use Rattle.spec_parts.specs.Strikes.{struck}
-use Rattle.resource_pool.specs.Locking.{Turn, Locks, Unlocks, Poisons, turns_of, turns, AreInTurn, LockedInTurn}
+use Rattle.resource_pool.specs.Locking.{LockChange, Locks, Unlocks, Poisons, turns_of, turns, AreInTurn, LockedInTurn}
 
 -- the state that turns lead to
-abbrev led : Hold → List Turn → Hold
+abbrev led : Hold → List LockChange → Hold
 led state [] = state
 led state (Locks ∷ others) = led Held others
 led state (Unlocks ∷ others) = led Free others
 led state (Poisons ∷ others) = led Poisoned others
 
 -- turns one after the other
-in_turn-append : (state : Hold) (first others : List Turn) → AreInTurn state first → AreInTurn (led state first) others → AreInTurn state (first ++ others)
+in_turn-append : (state : Hold) (first others : List LockChange) → AreInTurn state first → AreInTurn (led state first) others → AreInTurn state (first ++ others)
 in_turn-append state [] others are more = more
 in_turn-append state (Locks ∷ first) others are more = (are.0, in_turn-append Held first others are.1 more)
 in_turn-append state (Unlocks ∷ first) others are more = (are.0, in_turn-append Free first others are.1 more)

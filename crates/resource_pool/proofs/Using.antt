@@ -17,18 +17,18 @@ use Rattle.spec_parts.specs.Objects.{called}
 use Rattle.spec_parts.specs.Pools.{pool, is_out, use_last}
 use Rattle.spec_parts.specs.Row.{Row, Queued, Stepped, Takers, Waits, Ignores, Looks, anybody, quiet, done, int, stepped, otherwise}
 use Rattle.spec_parts.specs.Strikes.{struck}
-use Rattle.resource_pool.specs.Using.{Turn, Grants, Puts, turns_of, used, AreInTurn, AreIdle, HasIdle, UsedInTurn, IdleStandOnce}
+use Rattle.resource_pool.specs.Using.{PoolChange, Grants, Puts, turns_of, used, AreInTurn, AreIdle, HasIdle, UsedInTurn, IdleStandOnce}
 
 -- Turns
 
 -- whether somebody has the resource after these turns
-abbrev led : ℕ → Bool → List Turn → Bool
+abbrev led : ℕ → Bool → List PoolChange → Bool
 led resource out [] = out
 led resource out (Grants other ∷ turns) = elim (other == resource) [ true ↦ led resource true turns | false ↦ led resource out turns ]
 led resource out (Puts other ∷ turns) = elim (other == resource) [ true ↦ led resource false turns | false ↦ led resource out turns ]
 
 module _ (q : ℕ) where
-  append_go : (b out before after : Bool) (first others : List Turn)
+  append_go : (b out before after : Bool) (first others : List PoolChange)
       → (AreInTurn q after first → AreInTurn q (led q after first) others → AreInTurn q after (first ++ others))
       → (AreInTurn q out first → AreInTurn q (led q out first) others → AreInTurn q out (first ++ others))
       → (elim b as (λ _. Type 0) [ true ↦ (out ≡ before) × AreInTurn q after first | false ↦ AreInTurn q out first ])
@@ -38,7 +38,7 @@ module _ (q : ℕ) where
   append_go false out before after first others hit miss are more = miss are more
 
   -- turns one after the other
-  in_turn-append : (out : Bool) (first others : List Turn) → AreInTurn q out first → AreInTurn q (led q out first) others → AreInTurn q out (first ++ others)
+  in_turn-append : (out : Bool) (first others : List PoolChange) → AreInTurn q out first → AreInTurn q (led q out first) others → AreInTurn q out (first ++ others)
   in_turn-append out [] others are more = more
   in_turn-append out (Grants r ∷ first) others are more = append_go (r == q) out false true first others (in_turn-append true first others) (in_turn-append out first others) are more
   in_turn-append out (Puts r ∷ first) others are more = append_go (r == q) out true false first others (in_turn-append false first others) (in_turn-append out first others) are more
@@ -153,7 +153,7 @@ out_fits made idle r are out =
 
 -- Calls
 
-pub record Leads (q made : ℕ) (idle : List ℕ) (values : Data) (turns : List Turn) : Type 0 where
+pub record Leads (q made : ℕ) (idle : List ℕ) (values : Data) (turns : List PoolChange) : Type 0 where
   pub in_turn : AreInTurn q (is_out made idle q) turns
   pub size : ℕ
   pub now_made : ℕ

@@ -16,36 +16,36 @@ use Rattle.spec_parts.specs.Row.{Row, Stepped}
 use Rattle.spec_parts.specs.Strikes.{struck}
 
 -- what happens to a mutex
-pub data Turn : Type 0 where
-  Locks : Turn
-  Unlocks : Turn
-  Poisons : Turn
+pub data LockChange : Type 0 where
+  Locks : LockChange
+  Unlocks : LockChange
+  Poisons : LockChange
 
 -- these turns where the answer is `()` or another value but 0
-abbrev pub if_taken : Answer → List Turn → List Turn
+abbrev pub if_taken : Answer → List LockChange → List LockChange
 if_taken (answer.Done value.Unit) turns = turns
 if_taken (answer.Done (value.Int (pos (suc more)))) turns = turns
 if_taken other turns = []
 
-abbrev pub if_woken : Option Sent → List Turn → List Turn
+abbrev pub if_woken : Option Sent → List LockChange → List LockChange
 if_woken None turns = []
 if_woken (Some sent) turns = turns
 
 -- what a call does to the mutex, in order
-abbrev pub turns_of : Call → Stepped → List Turn
+abbrev pub turns_of : Call → Stepped → List LockChange
 turns_of (call.Lock object) step = if_taken step.answer (Locks ∷ [])
 turns_of (call.TryLock object) step = if_taken step.answer (Locks ∷ [])
 turns_of (call.Unlock object) step = if_taken step.answer (Unlocks ∷ []) ++ if_woken step.sent (Locks ∷ [])
 turns_of (call.Poison object) step = Poisons ∷ []
 turns_of other step = []
 
-abbrev pub turns : Row → List Move → List Turn
+abbrev pub turns : Row → List Move → List LockChange
 turns row [] = []
 turns row (Calls who off serial call ∷ moves) = let step : Stepped = called row who off serial call in turns_of call step ++ turns step.row moves
 turns row (Strikes who ∷ moves) = turns (struck row who) moves
 
 -- each turn comes where it may: from this state on
-abbrev pub AreInTurn : Hold → List Turn → Type 0
+abbrev pub AreInTurn : Hold → List LockChange → Type 0
 AreInTurn state [] = Unit {0}
 AreInTurn state (Locks ∷ others) = (state ≡ Free) × AreInTurn Held others
 AreInTurn state (Unlocks ∷ others) = (state ≡ Held) × AreInTurn Free others

@@ -18,36 +18,36 @@ use Rattle.spec_parts.specs.Row.{Row, Stepped}
 use Rattle.spec_parts.specs.Strikes.{struck}
 
 -- what happens to resources
-pub data Turn : Type 0 where
-  Grants : (resource : ℕ) → Turn
-  Puts : (resource : ℕ) → Turn
+pub data PoolChange : Type 0 where
+  Grants : (resource : ℕ) → PoolChange
+  Puts : (resource : ℕ) → PoolChange
 
 -- the resource that a value names
-abbrev pub granted : Value → List Turn
+abbrev pub granted : Value → List PoolChange
 granted (value.Int (pos resource)) = Grants resource ∷ []
 granted other = []
 
-abbrev pub answered : Answer → List Turn
+abbrev pub answered : Answer → List PoolChange
 answered (answer.Done given) = granted given
 answered other = []
 
-abbrev pub handed : Option Sent → List Turn
+abbrev pub handed : Option Sent → List PoolChange
 handed (Some (Resumes who (outcome.Ok given))) = granted given
 handed other = []
 
-abbrev pub if_done : Answer → List Turn → List Turn
+abbrev pub if_done : Answer → List PoolChange → List PoolChange
 if_done (answer.Done given) turns = turns
 if_done other turns = []
 
 -- what a call does to resources, in order
-abbrev pub turns_of : Call → Stepped → List Turn
+abbrev pub turns_of : Call → Stepped → List PoolChange
 turns_of (call.Use object) step = answered step.answer
 turns_of (call.Put object resource) step = if_done step.answer (Puts resource ∷ []) ++ handed step.sent
 turns_of other step = []
 
 -- what came of moves: what happened to resources, in order, and the row at the end
 pub record Used : Type 0 where
-  pub turns : List Turn
+  pub turns : List PoolChange
   pub row : Row
 
 abbrev pub used : Row → List Move → Used
@@ -59,7 +59,7 @@ used row (Calls who off serial call ∷ moves) =
 used row (Strikes who ∷ moves) = used (struck row who) moves
 
 -- of one resource: it is granted only where nobody has it, and put only where somebody has
-abbrev pub AreInTurn : (resource : ℕ) → (out : Bool) → List Turn → Type 0
+abbrev pub AreInTurn : (resource : ℕ) → (out : Bool) → List PoolChange → Type 0
 AreInTurn resource out [] = Unit {0}
 AreInTurn resource out (Grants other ∷ turns) = elim (other == resource) [ true ↦ (out ≡ false) × AreInTurn resource true turns | false ↦ AreInTurn resource out turns ]
 AreInTurn resource out (Puts other ∷ turns) = elim (other == resource) [ true ↦ (out ≡ true) × AreInTurn resource false turns | false ↦ AreInTurn resource out turns ]

@@ -9,7 +9,7 @@ use Rattle.resume_cells.specs.declared.view.Deed.{Deed}
 use Rattle.resume_cells.specs.declared.view.Deed.TheVariants.{Arm, Wake, Cancel}
 use Rattle.resume_cells.specs.declared.view.Mark.{Mark}
 use Rattle.resume_cells.specs.declared.view.Found.{Found}
-use Rattle.resume_cells.specs.declared.view.Told.{Told}
+use Rattle.resume_cells.specs.declared.view.SeatLog.{SeatLog}
 use Rattle.resume_cells.specs.Marks.{code_of, Entry, word, WasWord, Follows, IsHistory, IsDecision, of_cell, marks_by, AreByOwners, AllWere}
 use Rattle.resume_cells.specs.Known.{waiting, is_arm, decides, tells_decided, knows, knows_below, last_armed, CanArm}
 use Rattle.resume_cells.specs.Views.{arm_of}
@@ -29,7 +29,7 @@ less p q h [] e = e
 less p q h (x ∷ xs) e = ⊎_elim (λ a. or_left (q x) _ (h x a)) (λ b. or_right (q x) _ (less p q h xs b)) (or_true (p x) _ e)
 
 -- what is known below a stamp is known
-known : (t : Told) (cell armed stamp : ℕ) → knows_below t cell armed stamp ≡ true → knows t cell armed ≡ true
+known : (t : SeatLog) (cell armed stamp : ℕ) → knows_below t cell armed stamp ≡ true → knows t cell armed ≡ true
 known t cell armed stamp e = ⊎_elim
     (λ a. or_left (list_any (tells_decided cell armed) t.finds) _ (less (told_below cell armed stamp) (tells_decided cell armed) (λ f b. (and_true (tells_decided cell armed f) _ b).0) t.finds a))
     (λ a. or_right (list_any (tells_decided cell armed) t.finds) _ (less (below cell armed stamp) (decides cell armed) (λ m b. (and_true (decides cell armed m) _ b).0) t.marks a))
@@ -62,7 +62,7 @@ any_found q log [] a e = absurd (let x : false ≡ true = e in cc)
 any_found q log (f ∷ fs) a e = ⊎_elim (λ (h : q f ≡ true). (f, h, a.0)) (λ h. any_found q log fs a.1 h) (or_true (q f) _ e)
 
 -- the decision that is known is that of the history
-decided_below : (log : List Entry) (by cell stamp : ℕ) (t : Told) (n p : Mark) (ps : List Mark) → marks_by by log ≡ t.marks → AllWere log t.finds → of_cell cell log ≡ n ∷ p ∷ ps
+decided_below : (log : List Entry) (by cell stamp : ℕ) (t : SeatLog) (n p : Mark) (ps : List Mark) → marks_by by log ≡ t.marks → AllWere log t.finds → of_cell cell log ≡ n ∷ p ∷ ps
     → IsHistory (n ∷ p ∷ ps) → p.deed ≡ Arm → knows_below t cell p.stamp stamp ≡ true → n.stamp < stamp
 decided_below log by cell stamp t n p ps made stood is h k e = ⊎_elim
     (λ a. let f = any_found (told_below cell p.stamp stamp) log t.finds stood a in
@@ -92,10 +92,10 @@ decided_below log by cell stamp t n p ps made stood is h k e = ⊎_elim
     codes Wake = (omega arith, omega arith)
     codes Cancel = (omega arith, omega arith)
 
-abbrev Arms : Told → ℕ → ℕ → Option ℕ → Type 0
+abbrev Arms : SeatLog → ℕ → ℕ → Option ℕ → Type 0
 Arms t cell stamp last = elim last [ None ↦ 0 < stamp | Some armed ↦ knows_below t cell armed stamp ≡ true ]
 
-arms : (log : List Entry) (by cell stamp : ℕ) (t : Told) → marks_by by log ≡ t.marks → AllWere log t.finds → (h : List Mark) → of_cell cell log ≡ h → IsHistory h
+arms : (log : List Entry) (by cell stamp : ℕ) (t : SeatLog) → marks_by by log ≡ t.marks → AllWere log t.finds → (h : List Mark) → of_cell cell log ≡ h → IsHistory h
     → Arms t cell stamp (last_of h) → Follows (arm_of cell stamp) h
 arms log by cell stamp t made stood [] is h can = (refl, can)
 arms log by cell stamp t made stood (n ∷ []) is h can =
@@ -112,7 +112,7 @@ arms log by cell stamp t made stood (n ∷ p ∷ ps) is h can = ⊎_elim
     decision_arms : (m : Mark) → IsDecision m → is_arm m.deed ≡ false
     decision_arms m d = ⊎_elim (λ w. ap is_arm w) (λ c. ap is_arm c) d
 
-pub arm_follows : (each by cell stamp : ℕ) (log : List Entry) (t : Told) → AreByOwners each log → cell / each ≡ by → marks_by by log ≡ t.marks → AllWere log t.finds
+pub arm_follows : (each by cell stamp : ℕ) (log : List Entry) (t : SeatLog) → AreByOwners each log → cell / each ≡ by → marks_by by log ≡ t.marks → AllWere log t.finds
     → IsHistory (of_cell cell log) → CanArm t cell stamp → Follows (arm_of cell stamp) (of_cell cell log)
 arm_follows each by cell stamp log t o own made stood legal can = arms log by cell stamp t made stood (of_cell cell log) refl legal
     (subst (Arms t cell stamp) (ap (last_armed cell) (sym made) ∙ last_is each by cell log o own) can)

@@ -6,7 +6,7 @@ use mathlib.Core.Logic.{dite}
 use native.Mathlib.Decide.{dec_le}
 use lib.ListN.{get_elem?}
 use Rattle.atomic_table.specs.Table.{Final, Seen}
-use Rattle.resume_cells.specs.declared.view.Told.{Told}
+use Rattle.resume_cells.specs.declared.view.SeatLog.{SeatLog}
 use Rattle.resume_cells.specs.declared.view.View.{View}
 use Rattle.resume_cells.specs.declared.rule.Plan.{Plan}
 use Rattle.resume_cells.specs.Marks.{Entry, marks_by, AllWere}
@@ -27,7 +27,7 @@ past (x ∷ xs) zero d le = absurd (omega arith)
 past (x ∷ xs) (suc n) d le = past xs n d (omega arith)
 
 -- what a seat made and found fits the log
-abbrev Told_fits : List Entry → ℕ → Told → Type 0
+abbrev Told_fits : List Entry → ℕ → SeatLog → Type 0
 Told_fits log n t = (marks_by n log ≡ t.marks) × AllWere log t.finds
 
 others_fit : (seats : ℕ) (log : List Entry) (views : List View) (v : View) → Leads seats log views v → length v.known + 1 ≡ seats → (m : ℕ) → Told_fits log (m + 1) (slice_index_or v.known m nothing_told)

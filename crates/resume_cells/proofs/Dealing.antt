@@ -7,7 +7,7 @@ use native.Mathlib.Decide.{dec_le}
 use lib.ListN.{get_elem?}
 use Rattle.atomic_table.proofs.Lists.{at_set}
 use Rattle.atomic_table.specs.Table.{opening, Splits, Joins}
-use Rattle.resume_cells.specs.declared.view.Told.{Told}
+use Rattle.resume_cells.specs.declared.view.SeatLog.{SeatLog}
 use Rattle.resume_cells.specs.declared.view.View.{View}
 use Rattle.resume_cells.specs.declared.rule.Plan.{Plan}
 use Rattle.resume_cells.specs.Marks.{marks_by, AllWere}
@@ -79,7 +79,7 @@ deals plan id v live first more s kept at =
         fits = λ by u at' alive. ⊎_elim
             (λ old. let o = back views at by u old in let f = d.fits by o.0 o.1 (o.2 ∙ alive) in
             let ne : u.number ≢ v.dealt = λ e. fresh.1 by o.0 o.1 (o.2 ∙ alive) (o.3 ∙ e) in
-            record { is = rw (ne_eqb u.number v.dealt ne) (ap d.who (sym o.3) ∙ f.is); owns = sym o.4 ∙ f.owns; made = ap (λ (n : ℕ). marks_by n d.log) (sym o.3) ∙ f.made ∙ ap (λ (t : Told). t.marks) o.5; stood = subst (λ (t : Told). AllWere d.log t.finds) o.5 f.stood })
+            record { is = rw (ne_eqb u.number v.dealt ne) (ap d.who (sym o.3) ∙ f.is); owns = sym o.4 ∙ f.owns; made = ap (λ (n : ℕ). marks_by n d.log) (sym o.3) ∙ f.made ∙ ap (λ (t : SeatLog). t.marks) o.5; stood = subst (λ (t : SeatLog). AllWere d.log t.finds) o.5 f.stood })
             (λ (t : (by ≡ length (set views id (dealing v))) × (dealt_to v ≡ u)). subst (Fits plan.each d.log who' by) t.1
             (record { is = rw (eq-eqb v.dealt v.dealt refl) (sym (t.0 ∙ same)); owns = mine.owns; made = fresh.0; stood = tt }))
             (at_end (set views id (dealing v)) (dealt_to v) u by at');
@@ -130,7 +130,7 @@ takes_in plan id v other w live first w_live number s kept at ne at_w =
         shows = d.shows;
         owned = d.owned;
         fits = λ by u at' alive. let o = back views at by u at' alive in let f = d.fits by o.0 o.1 (o.2 ∙ alive) in
-            record { is = ap d.who (sym o.3) ∙ f.is; owns = sym o.4 ∙ f.owns; made = ap (λ (n : ℕ). marks_by n d.log) (sym o.3) ∙ f.made ∙ ap (λ (t : Told). t.marks) o.5; stood = subst (λ (t : Told). AllWere d.log t.finds) o.5 f.stood };
+            record { is = ap d.who (sym o.3) ∙ f.is; owns = sym o.4 ∙ f.owns; made = ap (λ (n : ℕ). marks_by n d.log) (sym o.3) ∙ f.made ∙ ap (λ (t : SeatLog). t.marks) o.5; stood = subst (λ (t : SeatLog). AllWere d.log t.finds) o.5 f.stood };
         leads = λ by u at' alive is. two views by u at' alive
             (λ (t : (by ≡ id) × (taking_in v w ≡ u)). subst (Leads plan.seats d.log (set (set views id (taking_in v w)) other spent)) t.1 (record {
               most = r.most;
@@ -138,8 +138,8 @@ takes_in plan id v other w live first w_live number s kept at ne at_w =
               later = λ n le. let a = r.later n le in (a.0, less views at n a.1);
               ended = λ k told e. ⊎_elim (λ old. let a = r.ended k told old in (a.0, a.1, less views at (k + 1) a.2))
                   (λ (x : (k ≡ length v.known) × (w.own ≡ told)). let n : k + 1 ≡ w.number = ap (λ (m : ℕ). m + 1) x.0 ∙ sym number in (
-                    ap (λ (m : ℕ). marks_by m d.log) n ∙ its.made ∙ ap (λ (t : Told). t.marks) x.1,
-                    subst (λ (t : Told). AllWere d.log t.finds) x.1 its.stood,
+                    ap (λ (m : ℕ). marks_by m d.log) n ∙ its.made ∙ ap (λ (t : SeatLog). t.marks) x.1,
+                    subst (λ (t : SeatLog). AllWere d.log t.finds) x.1 its.stood,
                     λ j z at'' living. λ e. let o = back views at j z at'' living in let f = d.fits j o.0 o.1 (o.2 ∙ living) in
                         let here : j ≡ other = sym f.is ∙ ap d.who (o.3 ∙ e ∙ n) ∙ its.is in
                         ⊎_elim (λ (y : (j ≡ other) × (spent ≡ z)). let q : false ≡ true = ap (λ (x' : View). x'.live) y.1 ∙ living in cc)

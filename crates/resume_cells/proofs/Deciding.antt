@@ -12,7 +12,7 @@ use Rattle.resume_cells.specs.declared.view.View.{View}
 use Rattle.resume_cells.specs.declared.rule.Plan.{Plan}
 use Rattle.resume_cells.specs.Marks.{code_of, IsHistory, of_cell}
 use Rattle.resume_cells.specs.Known.{knows, waiting, SaysWoken, CanArm}
-use Rattle.resume_cells.specs.Rule.{Kept, Keeps}
+use Rattle.resume_cells.specs.Rule.{KeptWords, Keeps}
 use Rattle.resume_cells.specs.Views.{marked, found, arm_of, decision_of}
 use Rattle.resume_cells.specs.Plays.{Decides, Arms}
 use Rattle.resume_cells.proofs.Cases.{set_same}
@@ -53,7 +53,7 @@ decides plan slots id cell deed armed stamp me live lt deeds own rises s kept _ 
       keeps,
       tt,
       subst (λ b. Keeps plan (stepped s cell (either b (4 * stamp + code_of deed) x) id me.1 (found me.0 cell x) keeps)) (sym (ne_eqb x (waiting armed) miss))
-          (length-set s.words cell x ∙ kept.0, subst (λ (ws : List ℕ). Kept plan.each plan.seats ws (set s.views id (found me.0 cell x))) (sym (set_same s.words cell)) (finds plan.each plan.seats s.words s.views id cell me.0 k at live lt')),
+          (length-set s.words cell x ∙ kept.0, subst (λ (ws : List ℕ). KeptWords plan.each plan.seats ws (set s.views id (found me.0 cell x))) (sym (set_same s.words cell)) (finds plan.each plan.seats s.words s.views id cell me.0 k at live lt')),
       record {
         tells = untold x miss;
         fresh = λ hit. absurd (miss hit);

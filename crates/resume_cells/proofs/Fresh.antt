@@ -8,7 +8,7 @@ use native.Mathlib.Decide.{ℕ_discrete}
 use Rattle.resume_cells.specs.declared.view.Deed.TheVariants.{Arm}
 use Rattle.resume_cells.specs.declared.view.Mark.{Mark}
 use Rattle.resume_cells.specs.declared.view.Found.{Found}
-use Rattle.resume_cells.specs.declared.view.Told.{Told}
+use Rattle.resume_cells.specs.declared.view.SeatLog.{SeatLog}
 use Rattle.resume_cells.specs.Marks.{code_of, Entry, word, WasWord, IsHistory, of_cell, marks_by, AllWere}
 use Rattle.resume_cells.specs.Known.{tells_decided, is_arm, decides, knows}
 use Rattle.resume_cells.proofs.Cases.{or_false, and_right, and_left, bool_cases}
@@ -77,7 +77,7 @@ marks_fresh by cell armed (e ∷ es) u = dite (ℕ_discrete e.1.cell cell)
         go false = rest
 
 -- who made these marks and found these words doesn't know the cell's last wait decided, where that is undecided
-pub fresh : (log : List Entry) (by : ℕ) (t : Told) (cell armed : ℕ) (n : Mark) (ns : List Mark) → marks_by by log ≡ t.marks → AllWere log t.finds
+pub fresh : (log : List Entry) (by : ℕ) (t : SeatLog) (cell armed : ℕ) (n : Mark) (ns : List Mark) → marks_by by log ≡ t.marks → AllWere log t.finds
     → of_cell cell log ≡ n ∷ ns → IsHistory (n ∷ ns) → n.deed ≡ Arm → n.stamp ≡ armed → knows t cell armed ≡ false
 fresh log by t cell armed n ns made stood is h k s = or_false (list_any (tells_decided cell armed) t.finds) _
     (finds_fresh log cell armed n ns is h k s t.finds stood)

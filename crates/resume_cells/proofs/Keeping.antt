@@ -8,10 +8,10 @@ use lib.ListN.{get_elem?}
 use Rattle.atomic_table.proofs.Lists.{at_set}
 use Rattle.resume_cells.specs.declared.view.Deed.TheVariants.{Wake}
 use Rattle.resume_cells.specs.declared.view.Mark.{Mark}
-use Rattle.resume_cells.specs.declared.view.Told.{Told}
+use Rattle.resume_cells.specs.declared.view.SeatLog.{SeatLog}
 use Rattle.resume_cells.specs.declared.view.View.{View}
 use Rattle.resume_cells.specs.Marks.{word, word_of, WasWord, Follows, of_cell}
-use Rattle.resume_cells.specs.Rule.{IsFree, Fits, Leads, Kept}
+use Rattle.resume_cells.specs.Rule.{IsFree, Fits, Leads, KeptWords}
 use Rattle.resume_cells.specs.Views.{marked, found}
 use Rattle.resume_cells.proofs.Marks.{here, away, mine, not_mine, all_longer, history_longer, is_word}
 
@@ -23,9 +23,9 @@ free_set n id views v w at live number free by u at' is = ⊎_elim
     (at_set views id by w u at')
 
 -- a new entry of the seat, whose word the cell then shows
-pub adds : (each seats : ℕ) (words : List ℕ) (views : List View) (id cell : ℕ) (v : View) (m : Mark) → (k : Kept each seats words views) → get_elem? views id ≡ some v → v.live ≡ true
+pub adds : (each seats : ℕ) (words : List ℕ) (views : List View) (id cell : ℕ) (v : View) (m : Mark) → (k : KeptWords each seats words views) → get_elem? views id ≡ some v → v.live ≡ true
     → cell < length words → m.cell ≡ cell → Follows m (of_cell cell k.log) → (m.deed ≢ Wake → cell / v.each ≡ v.number)
-    → Kept each seats (set words cell (word m)) (set views id (marked v m))
+    → KeptWords each seats (set words cell (word m)) (set views id (marked v m))
 adds each seats words views id cell v m k at live lt is f own = record {
   log = (v.number, m) ∷ k.log;
   who = k.who;
@@ -56,7 +56,7 @@ adds each seats words views id cell v m k at live lt is f own = record {
     other : (n : ℕ) → IsFree n views → v.number ≢ n
     other n free = free id v at live
 
-    leads_on : (u : View) (own : Told) → Leads seats k.log views u → Leads seats ((v.number, m) ∷ k.log) (set views id (marked v m)) (record u { own = own })
+    leads_on : (u : View) (own : SeatLog) → Leads seats k.log views u → Leads seats ((v.number, m) ∷ k.log) (set views id (marked v m)) (record u { own = own })
     leads_on u own l = record {
       most = l.most;
       few = l.few;
@@ -66,8 +66,8 @@ adds each seats words views id cell v m k at live lt is f own = record {
     }
 
 -- a word was found, and nothing changed
-pub finds : (each seats : ℕ) (words : List ℕ) (views : List View) (id cell : ℕ) (v : View) → Kept each seats words views → get_elem? views id ≡ some v → v.live ≡ true → cell < length words
-    → Kept each seats words (set views id (found v cell (slice_index words cell)))
+pub finds : (each seats : ℕ) (words : List ℕ) (views : List View) (id cell : ℕ) (v : View) → KeptWords each seats words views → get_elem? views id ≡ some v → v.live ≡ true → cell < length words
+    → KeptWords each seats words (set views id (found v cell (slice_index words cell)))
 finds each seats words views id cell v k at live lt = record {
   log = k.log;
   who = k.who;
@@ -89,7 +89,7 @@ finds each seats words views id cell v k at live lt = record {
     its : Fits each k.log k.who id v
     its = k.fits id v at live
 
-    leads_on : (u : View) (own : Told) → Leads seats k.log views u → Leads seats k.log (set views id (found v cell (slice_index words cell))) (record u { own = own })
+    leads_on : (u : View) (own : SeatLog) → Leads seats k.log views u → Leads seats k.log (set views id (found v cell (slice_index words cell))) (record u { own = own })
     leads_on u own l = record {
       most = l.most;
       few = l.few;

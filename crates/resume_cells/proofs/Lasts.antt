@@ -8,7 +8,7 @@ use Rattle.resume_cells.specs.declared.view.Deed.{Deed}
 use Rattle.resume_cells.specs.declared.view.Deed.TheVariants.{Arm, Wake, Cancel}
 use Rattle.resume_cells.specs.declared.view.Mark.{Mark}
 use Rattle.resume_cells.specs.Marks.{code_of, Entry, word_of, Follows, IsHistory, of_cell, marks_by, AreByOwners}
-use Rattle.resume_cells.specs.declared.view.Told.{Told}
+use Rattle.resume_cells.specs.declared.view.SeatLog.{SeatLog}
 use Rattle.resume_cells.specs.Known.{is_arm, is_cancel, cancels, last_armed, IsLast, SaysWoken}
 use Rattle.resume_cells.proofs.Cases.{bool_cases, eqb_cases, deed_cases, both_true, and_right, or_left, or_right, some_is, none-ne-some, nil-ne-cons}
 use Rattle.resume_cells.proofs.Marks.{here, away, mine}
@@ -105,7 +105,7 @@ woken_by each by cell armed log o own (n ∷ ns) is legal last kept ne = ⊎_eli
         f
 
 -- a wait that is its cell's last, and that its owner hasn't cancelled, was woken where the cell's word isn't that of its arm
-pub woken : (each by cell armed : ℕ) (log : List Entry) (t : Told) → AreByOwners each log → cell / each ≡ by → marks_by by log ≡ t.marks → IsHistory (of_cell cell log)
+pub woken : (each by cell armed : ℕ) (log : List Entry) (t : SeatLog) → AreByOwners each log → cell / each ≡ by → marks_by by log ≡ t.marks → IsHistory (of_cell cell log)
     → IsLast t cell armed → word_of (of_cell cell log) ≢ 4 * armed + 1 → SaysWoken armed (word_of (of_cell cell log))
 woken each by cell armed log t o own made legal last ne = woken_by each by cell armed log o own (of_cell cell log) refl legal
     (sym (last_is each by cell log o own) ∙ ap (last_armed cell) made ∙ last.0)

@@ -2,7 +2,7 @@
 use Rattle.std.proofs.Common.{◌≡◌, List, [], ◌∷◌, true, false, refl, inl, inr, arith, Some, None}
 use Rattle.spec_parts.specs.ResumeWords as words
 use Rattle.resume_cells.specs.declared.view.Deed.TheVariants.{Wake, Cancel}
-use Rattle.resume_cells.specs.declared.view.Told.{Told}
+use Rattle.resume_cells.specs.declared.view.SeatLog.{SeatLog}
 use Rattle.resume_cells.specs.declared.cells.Decided.TheVariants.{Won, Lost}
 use Rattle.resume_cells.specs.Marks.{Entry, word_of, IsHistory, of_cell, marks_by, AreByOwners}
 use Rattle.resume_cells.specs.Known.{waiting, knows, knows_below, last_armed, CanArm, IsLast, SaysWoken}
@@ -54,7 +54,7 @@ decisions_of_4 : decisions_of 4 (history_of 1 log) ≡ []
 decisions_of_4 = refl
 
 -- What seat 0 knows before it arms cell 1 again: by a cancellation that was lost it found the word of the wake, 4 * 7 + 2.
-abbrev told : Told
+abbrev told : SeatLog
 told = record { marks = arm_of 1 3 ∷ []; finds = record { cell = 1; word = 30 } ∷ [] }
 
 known : knows told 1 3 ≡ true

@@ -3,7 +3,7 @@ use Rattle.std.specs.Prelude.{◌≡◌, ℕ, ◌<◌, List, [], ◌∷◌, ◌+
 use Rattle.spec_parts.specs.ResumeWords as words
 use Rattle.resume_cells.specs.declared.view.Deed.TheVariants.{Arm, Wake, Cancel}
 use Rattle.resume_cells.specs.declared.view.Found.{Found}
-use Rattle.resume_cells.specs.declared.view.Told.{Told}
+use Rattle.resume_cells.specs.declared.view.SeatLog.{SeatLog}
 use Rattle.resume_cells.specs.Marks.{Entry, marks_by, AreByOwners}
 use Rattle.resume_cells.specs.Views.{nothing_told}
 
@@ -37,13 +37,13 @@ AllStood log [] = Unit {0}
 AllStood log (f ∷ fs) = Stood f.word (history_of f.cell log) × AllStood log fs
 
 -- what the seat of this number made and found; where there is none, nothing
-abbrev pub told_by : ℕ → List Told → Told
+abbrev pub told_by : ℕ → List SeatLog → SeatLog
 told_by n seats = slice_index_or seats n nothing_told
 
 -- There is one log of all marks, the newest first, each with the number of the seat that made it. The marks of each cell are its history, in which
 -- each wait but the last is decided, and its word shows the last mark. Arms and cancellations of a cell are its owner's. The marks of each seat are just those that it made, in its order, and each word
 -- that it found stood at some time.
-pub record Histories (each : ℕ) (shown : List ℕ) (seats : List Told) : Type 0 where
+pub record Histories (each : ℕ) (shown : List ℕ) (seats : List SeatLog) : Type 0 where
   pub log : List Entry
   pub legal : (cell : ℕ) → IsDecidedInTurn (history_of cell log)
   pub shows : (cell : ℕ) → cell < length shown → slice_index shown cell ≡ words.word_of (history_of cell log)

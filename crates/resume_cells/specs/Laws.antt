@@ -4,7 +4,7 @@ use Rattle.spec_parts.specs.ResumeWords as words
 use Rattle.resume_cells.specs.declared.view.Deed.TheVariants.{Arm}
 use Rattle.resume_cells.specs.declared.view.Mark.{Mark}
 use Rattle.resume_cells.specs.declared.view.Found.{Found}
-use Rattle.resume_cells.specs.declared.view.Told.{Told}
+use Rattle.resume_cells.specs.declared.view.SeatLog.{SeatLog}
 use Rattle.resume_cells.specs.Marks.{Entry, IsHistory, IsDecision, of_cell, word_of}
 use Rattle.resume_cells.specs.Known.{waiting, decides, tells_decided}
 use Rattle.resume_cells.specs.Histories.{history_of, IsDecidedInTurn, Histories, told_by}
@@ -41,11 +41,11 @@ FoundStays = (before later : List words.Mark) → IsDecidedInTurn (before ++ lat
 
 -- two decisions of one wait are one, by one seat
 abbrev pub OneWinner : Type 0
-OneWinner = (each : ℕ) (shown : List ℕ) (seats : List Told) → Histories each shown seats → (n k : ℕ) (m p : Mark) → Contains (told_by n seats).marks m → Contains (told_by k seats).marks p
+OneWinner = (each : ℕ) (shown : List ℕ) (seats : List SeatLog) → Histories each shown seats → (n k : ℕ) (m p : Mark) → Contains (told_by n seats).marks m → Contains (told_by k seats).marks p
     → IsDecision m → IsDecision p → m.cell ≡ p.cell → m.armed ≡ p.armed → (n ≡ k) × (m ≡ p)
 
 -- a seat decided the wait, with a stamp that isn't above this one
-pub record IsDecidedBy (cell armed last : ℕ) (seats : List Told) : Type 0 where
+pub record IsDecidedBy (cell armed last : ℕ) (seats : List SeatLog) : Type 0 where
   pub by : ℕ
   pub mark : Mark
   pub its : Contains (told_by by seats).marks mark
@@ -54,7 +54,7 @@ pub record IsDecidedBy (cell armed last : ℕ) (seats : List Told) : Type 0 wher
 
 -- where a word that a seat found tells that a wait was decided, and some seat began that wait, some seat decided it, with a stamp that isn't above the word's
 abbrev pub FoundIsDecided : Type 0
-FoundIsDecided = (each : ℕ) (shown : List ℕ) (seats : List Told) → Histories each shown seats → (n k : ℕ) (f : Found) (a : Mark) → Contains (told_by n seats).finds f → Contains (told_by k seats).marks a
+FoundIsDecided = (each : ℕ) (shown : List ℕ) (seats : List SeatLog) → Histories each shown seats → (n k : ℕ) (f : Found) (a : Mark) → Contains (told_by n seats).finds f → Contains (told_by k seats).marks a
     → a.deed ≡ Arm → a.cell ≡ f.cell → tells_decided f.cell a.stamp f ≡ true → IsDecidedBy f.cell a.stamp (f.word / 4) seats
 
 -- in the log a cell's marks, the newest first, are legal exactly where its history is one in which each wait but the last is decided; and they show the same word

@@ -3,7 +3,7 @@ use Rattle.std.specs.Prelude.{◌≡◌, ◌≢◌, ℕ, ◌+◌, ◌<◌, ◌�
 use mathlib.Core.Option.{some}
 use lib.ListN.{get_elem?}
 use Rattle.atomic_table.specs.Table.{State}
-use Rattle.resume_cells.specs.declared.view.Told.{Told}
+use Rattle.resume_cells.specs.declared.view.SeatLog.{SeatLog}
 use Rattle.resume_cells.specs.declared.view.View.{View}
 use Rattle.resume_cells.specs.declared.rule.Plan.{Plan}
 use Rattle.resume_cells.specs.Marks.{Entry, word_of, IsHistory, of_cell, marks_by, AreByOwners, AllWere}
@@ -24,9 +24,9 @@ pub record Leads (seats : ℕ) (log : List Entry) (views : List View) (v : View)
   pub most : v.dealt ≤ seats
   pub few : length v.known < v.dealt
   pub later : (n : ℕ) → v.dealt ≤ n → (marks_by n log ≡ []) × IsFree n views
-  pub ended : (k : ℕ) (t : Told) → get_elem? v.known k ≡ some t → (marks_by (k + 1) log ≡ t.marks) × AllWere log t.finds × IsFree (k + 1) views
+  pub ended : (k : ℕ) (t : SeatLog) → get_elem? v.known k ≡ some t → (marks_by (k + 1) log ≡ t.marks) × AllWere log t.finds × IsFree (k + 1) views
 
-pub record Kept (each seats : ℕ) (words : List ℕ) (views : List View) : Type 0 where
+pub record KeptWords (each seats : ℕ) (words : List ℕ) (views : List View) : Type 0 where
   pub log : List Entry
   pub who : ℕ → ℕ
   pub legal : (cell : ℕ) → IsHistory (of_cell cell log)
@@ -37,4 +37,4 @@ pub record Kept (each seats : ℕ) (words : List ℕ) (views : List View) : Type
 
 -- what is said when the table is made: how many cells and seats there are, and how many cells each seat owns
 abbrev pub Keeps : Plan → State (Unit {0}) View → Type 0
-Keeps plan s = (length s.words ≡ plan.cells) × Kept plan.each plan.seats s.words s.views
+Keeps plan s = (length s.words ≡ plan.cells) × KeptWords plan.each plan.seats s.words s.views

@@ -2,7 +2,7 @@
 use Rattle.std.specs.Prelude.{◌≡◌, ℕ, zero, suc, ◌+◌, ◌/◌, List, [], ◌∷◌, length}
 use Rattle.atomic_table.specs.Seated.{TableId}
 use Rattle.resume_cells.specs.declared.view.Mark.{Mark}
-use Rattle.resume_cells.specs.declared.view.Told.{Told}
+use Rattle.resume_cells.specs.declared.view.SeatLog.{SeatLog}
 use Rattle.resume_cells.specs.declared.view.View.{View}
 use Rattle.resume_cells.specs.Views.{nothing_told}
 
@@ -18,7 +18,7 @@ pub record Seated : Type 0 where
   pub table : TableId
   pub number : ℕ
   pub each : ℕ
-  pub told : Told
+  pub told : SeatLog
 
 abbrev pub seated : TableId → View → Seated
 seated table v = record { table = table; number = v.number; each = v.each; told = v.own }
@@ -50,6 +50,6 @@ abbrev pub AreAll : AllCells → List Seated → Type 0
 AreAll cells seats = (length seats ≡ cells.seats) × AreNumbered cells.table 0 seats
 
 -- what the seats made and found
-abbrev pub told_all : List Seated → List Told
+abbrev pub told_all : List Seated → List SeatLog
 told_all [] = []
 told_all (s ∷ ss) = s.told ∷ told_all ss

@@ -3,7 +3,7 @@ use Rattle.std.specs.Prelude.{ℕ, ◌+◌, true, false, [], ◌∷◌, ◌++◌
 use Rattle.resume_cells.specs.declared.view.Deed.{Deed}
 use Rattle.resume_cells.specs.declared.view.Deed.TheVariants.{Arm}
 use Rattle.resume_cells.specs.declared.view.Mark.{Mark}
-use Rattle.resume_cells.specs.declared.view.Told.{Told}
+use Rattle.resume_cells.specs.declared.view.SeatLog.{SeatLog}
 use Rattle.resume_cells.specs.declared.view.View.{View}
 
 -- a wait begins
@@ -22,7 +22,7 @@ marked v m = record v { own = record { marks = m ∷ v.own.marks; finds = v.own.
 abbrev pub found : View → (cell : ℕ) → (word : ℕ) → View
 found v cell word = record v { own = record { marks = v.own.marks; finds = record { cell = cell; word = word } ∷ v.own.finds } }
 
-abbrev pub nothing_told : Told
+abbrev pub nothing_told : SeatLog
 nothing_told = record { marks = []; finds = [] }
 
 -- the first seat, which has made no other

@@ -22,4 +22,4 @@ pub use laws::{
     waits_are_decided_once,
 };
 pub use seat::CellSeat;
-pub use view::{Deed, Found, Mark, Told, View};
+pub use view::{Deed, Found, Mark, SeatLog, View};

@@ -29,7 +29,7 @@ pub struct Found {
 }
 
 /// What a seat made and found, the newest first.
-pub struct Told {
+pub struct SeatLog {
     pub marks: LinkedList<Mark>,
     pub finds: LinkedList<Found>,
 }
@@ -43,9 +43,9 @@ pub struct View {
     /// How many cells each seat owns.
     pub each: u64,
     /// What it made and found.
-    pub own: Told,
+    pub own: SeatLog,
     /// Of the first seat: how many seats were made.
     pub dealt: u64,
     /// Of the first seat: what those made and found that it took in, in the order of their numbers.
-    pub known: LinkedList<Told>,
+    pub known: LinkedList<SeatLog>,
 }

@@ -3,7 +3,7 @@ use Rattle.std.specs.Prelude.{◌≡◌, ℕ, ℤ, List, Option, Some, None, Res
 use Rattle.spec_script.specs.Trees.{Tree, Word, Number, Text, place_of}
 use Rattle.std.specs.Borrow.{Bor}
 use Rattle.script_tree.specs.Pieces.{Piece, piece_of}
-use Rattle.script_tree.specs.declared.tree.Node.{Node}
+use Rattle.script_tree.specs.declared.tree.TreeNode.{TreeNode}
 use Rattle.script_draft.specs.Ahead.{word_at, number_at, text_at, list_at, form_at, tree_ahead, IsInside, IsInForm}
 use Rattle.script_draft.specs.declared.cursor.Word.{Word as WordRead}
 use Rattle.script_draft.specs.declared.cursor.Text.{Text as TextRead}
@@ -12,7 +12,7 @@ use Rattle.script_forms.specs.declared.fault.ScriptFault.{ScriptFault}
 use Rattle.script_forms.specs.declared.fault.ScriptFault.TheVariants.{Shape}
 
 -- the piece that a reference points to
-abbrev pub seen : Bor Node → Piece
+abbrev pub seen : Bor TreeNode → Piece
 seen it = piece_of it.now
 
 abbrev pub word_of : WordRead → ℕ × List ℕ

@@ -10,7 +10,7 @@ ghost use Rattle.script_draft.specs.Ahead.{place_in, begins_tree, open_in, word_
 ghost use Rattle.script_draft.specs.Taken.{word_of, text_of, number_of};
 
 use script_forms::ScriptFault;
-use script_tree::Node as Piece;
+use script_tree::TreeNode as Piece;
 use std::marker::Model;
 
 /// A word and its place; or the place of a list and the word that it begins with.

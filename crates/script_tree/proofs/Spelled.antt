@@ -9,7 +9,7 @@ use Rattle.spec_script.specs.Bytes.{line_feed, space, quote, open_paren, close_p
 use Rattle.spec_script.specs.Spelling.{item_spelling, text_spelling}
 use Rattle.spec_script.specs.Trees.{Tree, Word, Number, Text, Branch, Trees, Nil, And}
 use Rattle.spec_script.specs.Canonical.{canonical, canonical_row, canonical_rest, document}
-use Rattle.script_tree.specs.declared.tree.Node.{Node}
+use Rattle.script_tree.specs.declared.tree.TreeNode.{TreeNode}
 use Rattle.script_tree.specs.Pieces.{Piece, Closes, piece_of, pieces, row_pieces}
 use Rattle.script_tree.specs.Spelled.{piece_spelling, ends_tree, is_space_due, gap_if, spelled}
 
@@ -54,7 +54,7 @@ document_pushed (Ok x) old new tree ps is pushed = pushed ∙ ap (λ bs. old ++ 
 document_pushed (Err e) old new tree ps is pushed = tt
 
 -- the node at a place, and those behind it
-node_first : (nodes : List Node) (i : ℕ) (node : Node) → i < length nodes → node ≡ get_or nodes i node → map piece_of (drop i nodes) ≡ piece_of node ∷ map piece_of (drop (i + 1) nodes)
+node_first : (nodes : List TreeNode) (i : ℕ) (node : TreeNode) → i < length nodes → node ≡ get_or nodes i node → map piece_of (drop i nodes) ≡ piece_of node ∷ map piece_of (drop (i + 1) nodes)
 node_first nodes i node less is =
     let front : drop i nodes ≡ get_or nodes i node ∷ drop (i + 1) nodes = rw (add-one, drop-cons nodes i node) refl in
     ap (map piece_of) front ∙ ap (λ n. piece_of n ∷ map piece_of (drop (i + 1) nodes)) (sym is)
@@ -62,7 +62,7 @@ node_first nodes i node less is =
 one_more : (out gap piece rest : List ℕ) → ((out ++ gap) ++ piece) ++ rest ≡ out ++ (gap ++ (piece ++ rest))
 one_more out gap piece rest = simp append_assoc
 
-pub spelled_step : (out gapped next whole : List ℕ) (behind due behind_next : Bool) (nodes : List Node) (i : ℕ) (node : Node) → i < length nodes → node ≡ get_or nodes i node → due ≡ is_space_due behind (piece_of node) → gapped ≡ out ++ gap_if due → next ≡ gapped ++ piece_spelling (piece_of node) → behind_next ≡ ends_tree (piece_of node)
+pub spelled_step : (out gapped next whole : List ℕ) (behind due behind_next : Bool) (nodes : List TreeNode) (i : ℕ) (node : TreeNode) → i < length nodes → node ≡ get_or nodes i node → due ≡ is_space_due behind (piece_of node) → gapped ≡ out ++ gap_if due → next ≡ gapped ++ piece_spelling (piece_of node) → behind_next ≡ ends_tree (piece_of node)
     → out ++ spelled behind (map piece_of (drop i nodes)) ≡ whole → next ++ spelled behind_next (map piece_of (drop (i + 1) nodes)) ≡ whole
 unfolding spelled
 spelled_step out gapped next whole behind due behind_next nodes i node less is due_is gapped_is next_is behind_is so_far =
@@ -72,14 +72,14 @@ spelled_step out gapped next whole behind due behind_next nodes i node less is d
     ∙ (one_more out (gap_if (is_space_due behind (piece_of node))) (piece_spelling (piece_of node)) rest
     ∙ (ap (λ ps. out ++ spelled behind ps) (sym (node_first nodes i node less is)) ∙ so_far)))
 
-pub spelled_none : (out whole : List ℕ) (behind : Bool) (nodes : List Node) (i : ℕ) → length nodes ≤ i → out ++ spelled behind (map piece_of (drop i nodes)) ≡ whole → out ≡ whole
+pub spelled_none : (out whole : List ℕ) (behind : Bool) (nodes : List TreeNode) (i : ℕ) → length nodes ≤ i → out ++ spelled behind (map piece_of (drop i nodes)) ≡ whole → out ≡ whole
 unfolding spelled
 spelled_none out whole behind nodes i least so_far =
     let none : drop i nodes ≡ [] = grind (arith, common_steps) in
     sym (append-nil out) ∙ (ap (λ ns. out ++ spelled behind (map piece_of ns)) (sym none) ∙ so_far)
 
 -- what is still to be written is no longer than all of it
-pub rest_within : (old out all : List ℕ) (behind due : Bool) (nodes : List Node) (i : ℕ) (node : Node) → i < length nodes → node ≡ get_or nodes i node → due ≡ is_space_due behind (piece_of node)
+pub rest_within : (old out all : List ℕ) (behind due : Bool) (nodes : List TreeNode) (i : ℕ) (node : TreeNode) → i < length nodes → node ≡ get_or nodes i node → due ≡ is_space_due behind (piece_of node)
     → out ++ spelled behind (map piece_of (drop i nodes)) ≡ old ++ all → length out + (length (gap_if due) + length (piece_spelling (piece_of node))) ≤ length old + length all
 unfolding spelled
 rest_within old out all behind due nodes i node less is due_is so_far =

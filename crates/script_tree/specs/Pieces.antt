@@ -1,8 +1,8 @@
 -- A tree as the row of its pieces in reading order.
 use Rattle.std.specs.Prelude.{◌≡◌, ℕ, ℤ, List, [], ◌∷◌, ◌++◌}
 use Rattle.spec_script.specs.Trees.{Tree, Word, Number, Text, Branch, Trees, Nil, And}
-use Rattle.script_tree.specs.declared.tree.Node.{Node}
-use Rattle.script_tree.specs.declared.tree.Node.TheVariants as node
+use Rattle.script_tree.specs.declared.tree.TreeNode.{TreeNode}
+use Rattle.script_tree.specs.declared.tree.TreeNode.TheVariants as node
 
 -- a word, a number, a text, or the beginning or the end of a list
 pub data Piece : Type 0 where
@@ -13,7 +13,7 @@ pub data Piece : Type 0 where
   Closes : Piece
 
 -- what a node of the code stands for
-abbrev pub piece_of : Node → Piece
+abbrev pub piece_of : TreeNode → Piece
 piece_of (node.Word at word) = Words at word.items
 piece_of (node.Number at number) = Numbers at number
 piece_of (node.Text at text) = Texts at text.items

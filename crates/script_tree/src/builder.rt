@@ -3,7 +3,7 @@
 ghost use Rattle.std.specs.Prelude.{◌≡◌, [], ◌∷◌, ◌++◌, OnOk};
 ghost use Rattle.script_tree.specs.Pieces.{Words, Numbers, Texts, Opens, Closes, IsWhole, tree_of};
 
-use crate::tree::{Draft, Node, Tree};
+use crate::tree::{TreeDraft, TreeNode, Tree};
 use eio_value::NoMemory;
 use std::alloc::Global;
 use std::marker::Model;
@@ -12,7 +12,7 @@ use std::marker::Model;
 #[derive(Drop)]
 pub struct TreeBuilder {
     alloc: Global,
-    draft: Draft,
+    draft: TreeDraft,
 }
 
 impl Model for TreeBuilder {
@@ -31,7 +31,7 @@ impl TreeBuilder {
     {
         TreeBuilder {
             alloc,
-            draft: Draft::new(alloc),
+            draft: TreeDraft::new(alloc),
         }
     }
 
@@ -43,7 +43,7 @@ impl TreeBuilder {
         ensures { OnOk result (self.new ≡ self.old ++ Words 0 word.now ∷ []) }
     {
         let word = word.to_vec(self.alloc)?;
-        self.draft.push(Node::Word { at: 0, word })?;
+        self.draft.push(TreeNode::Word { at: 0, word })?;
         Ok(())
     }
 
@@ -54,7 +54,7 @@ impl TreeBuilder {
     pub fn number(&mut self, number: i64) -> Result<(), NoMemory>
         ensures { OnOk result (self.new ≡ self.old ++ Numbers 0 number ∷ []) }
     {
-        self.draft.push(Node::Number { at: 0, number })?;
+        self.draft.push(TreeNode::Number { at: 0, number })?;
         Ok(())
     }
 
@@ -66,7 +66,7 @@ impl TreeBuilder {
         ensures { OnOk result (self.new ≡ self.old ++ Texts 0 text.now ∷ []) }
     {
         let text = text.to_vec(self.alloc)?;
-        self.draft.push(Node::Text { at: 0, text })?;
+        self.draft.push(TreeNode::Text { at: 0, text })?;
         Ok(())
     }
 
@@ -77,7 +77,7 @@ impl TreeBuilder {
     pub fn open(&mut self) -> Result<(), NoMemory>
         ensures { OnOk result (self.new ≡ self.old ++ Opens 0 ∷ []) }
     {
-        self.draft.push(Node::Open { at: 0 })?;
+        self.draft.push(TreeNode::Open { at: 0 })?;
         Ok(())
     }
 
@@ -99,7 +99,7 @@ impl TreeBuilder {
     pub fn close(&mut self) -> Result<(), NoMemory>
         ensures { OnOk result (self.new ≡ self.old ++ Closes ∷ []) }
     {
-        self.draft.push(Node::Close)?;
+        self.draft.push(TreeNode::Close)?;
         Ok(())
     }
 

@@ -3,7 +3,7 @@
 ghost use Rattle.std.specs.Prelude.{◌≡◌, ◌∷◌, ◌++◌, [], map, IfOk};
 ghost use Rattle.script_tree.specs.Pieces.{piece_of};
 
-use crate::tree::{Draft, Node, Tree};
+use crate::tree::{TreeDraft, TreeNode, Tree};
 use eio_value::NoMemory;
 use std::alloc::Global;
 
@@ -21,10 +21,10 @@ impl Tree {
 }
 
 /// The same pieces, in the same order.
-fn pieces_of(alloc: Global, nodes: &[Node]) -> Result<Draft, NoMemory>
+fn pieces_of(alloc: Global, nodes: &[TreeNode]) -> Result<TreeDraft, NoMemory>
     ensures { IfOk result (λ draft. draft ≡ map piece_of nodes.now) }
 {
-    let mut draft = Draft::new(alloc);
+    let mut draft = TreeDraft::new(alloc);
     for node in nodes {
         draft.push(copy_of(alloc, node)?)?;
     }
@@ -32,23 +32,23 @@ fn pieces_of(alloc: Global, nodes: &[Node]) -> Result<Draft, NoMemory>
 }
 
 /// The same piece.
-fn copy_of(alloc: Global, node: &Node) -> Result<Node, NoMemory>
+fn copy_of(alloc: Global, node: &TreeNode) -> Result<TreeNode, NoMemory>
     ensures { IfOk result (λ copy. piece_of copy ≡ piece_of node.now) }
 {
     Ok(match node {
-        Node::Word { at, word } => Node::Word {
+        TreeNode::Word { at, word } => TreeNode::Word {
             at: *at,
             word: word.as_slice().to_vec(alloc)?,
         },
-        Node::Number { at, number } => Node::Number {
+        TreeNode::Number { at, number } => TreeNode::Number {
             at: *at,
             number: *number,
         },
-        Node::Text { at, text } => Node::Text {
+        TreeNode::Text { at, text } => TreeNode::Text {
             at: *at,
             text: text.as_slice().to_vec(alloc)?,
         },
-        Node::Open { at } => Node::Open { at: *at },
-        Node::Close => Node::Close,
+        TreeNode::Open { at } => TreeNode::Open { at: *at },
+        TreeNode::Close => TreeNode::Close,
     })
 }

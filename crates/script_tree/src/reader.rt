@@ -10,7 +10,7 @@ use crate::fault::TreeFault;
 use crate::gap::after_gap;
 use crate::run::{is_run_byte, parse_run, run_len};
 use crate::text::read_text;
-use crate::tree::{Draft, Node, Tree};
+use crate::tree::{TreeDraft, TreeNode, Tree};
 use std::alloc::Global;
 
 /// The most lists that may be open in one another.
@@ -25,7 +25,7 @@ pub fn read_tree(alloc: Global, bytes: &[u8]) -> Result<Tree, TreeFault>
     ensures ok { IfOk result (λ tree. reading bytes.now ≡ Ok tree) }
     ensures fault { IfErr result (λ fault. Fails fault (reading bytes.now)) }
 {
-    let mut draft = Draft::new(alloc);
+    let mut draft = TreeDraft::new(alloc);
     let begin = after_gap(bytes, 0);
     let next = push_tree(alloc, bytes, begin, MOST_LISTS, &mut draft)?;
     let end = after_gap(bytes, next);
@@ -36,7 +36,7 @@ pub fn read_tree(alloc: Global, bytes: &[u8]) -> Result<Tree, TreeFault>
 }
 
 /// The text that begins at a quote, as one more piece; the place behind it.
-fn push_text(alloc: Global, bytes: &[u8], at: usize, draft: &mut Draft) -> Result<usize, TreeFault>
+fn push_text(alloc: Global, bytes: &[u8], at: usize, draft: &mut TreeDraft) -> Result<usize, TreeFault>
     requires within { at < length bytes.now }
     requires most { length bytes.now ≤ 262144 }
     ensures within { IfOk result (λ next. next ≤ length bytes.now) }
@@ -44,7 +44,7 @@ fn push_text(alloc: Global, bytes: &[u8], at: usize, draft: &mut Draft) -> Resul
     ensures text { Gives (grown bytes.now draft.new) result (grows draft.old (text_at at (drop (at + 1) bytes.now))) }
 {
     let text = read_text(alloc, bytes, at)?;
-    let node = Node::Text {
+    let node = TreeNode::Text {
         at: at as u32,
         text: text.items,
     };
@@ -53,7 +53,7 @@ fn push_text(alloc: Global, bytes: &[u8], at: usize, draft: &mut Draft) -> Resul
 }
 
 /// The word or number that begins at a run byte, as one more piece; the place behind it.
-fn push_run(alloc: Global, bytes: &[u8], at: usize, draft: &mut Draft) -> Result<usize, TreeFault>
+fn push_run(alloc: Global, bytes: &[u8], at: usize, draft: &mut TreeDraft) -> Result<usize, TreeFault>
     requires within { at < length bytes.now }
     requires run { is_run_byte (slice_index bytes.now at) ≡ true }
     requires most { length bytes.now ≤ 262144 }
@@ -76,7 +76,7 @@ fn push_tree(
     bytes: &[u8],
     at: usize,
     lists: u32,
-    draft: &mut Draft,
+    draft: &mut TreeDraft,
 ) -> Result<usize, TreeFault>
     requires within { at ≤ length bytes.now }
     requires most { length bytes.now ≤ 262144 }
@@ -112,7 +112,7 @@ fn push_list(
     bytes: &[u8],
     paren: usize,
     lists: u32,
-    draft: &mut Draft,
+    draft: &mut TreeDraft,
 ) -> Result<usize, TreeFault>
     requires within { paren < length bytes.now }
     requires most { length bytes.now ≤ 262144 }
@@ -120,11 +120,11 @@ fn push_list(
     ensures behind { IfOk result (λ next. paren < next) }
     ensures list { Gives (grown bytes.now draft.new) result (grows draft.old (list_by (tree_at lists) paren (drop (paren + 1) bytes.now))) }
 {
-    draft.push(Node::Open { at: paren as u32 })?;
+    draft.push(TreeNode::Open { at: paren as u32 })?;
     let mut at = after_gap(bytes, paren + 1);
     while at < bytes.len() {
         if bytes[at] == b')' {
-            draft.push(Node::Close)?;
+            draft.push(TreeNode::Close)?;
             return Ok(at + 1);
         }
         let next = push_tree(alloc, bytes, at, lists, draft)?;

@@ -9,7 +9,7 @@ ghost use Rattle.script_tree.specs.Numbers.{number_of, is_signed_numeral};
 ghost use Rattle.script_tree.specs.Views.{Gives, run_of};
 
 use crate::fault::TreeFault;
-use crate::tree::Node;
+use crate::tree::TreeNode;
 use std::alloc::Global;
 
 /// The most bytes of a word.
@@ -105,12 +105,12 @@ impl Run {
     ghost use Rattle.script_tree.specs.Pieces.{piece_of, leaf_of};
 
     /// The piece that it is, at its place.
-    pub fn into_node(self, at: u32) -> Node
+    pub fn into_node(self, at: u32) -> TreeNode
         ensures { piece_of result ≡ leaf_of (run_of at self) }
     {
         match self {
-            Run::Word(word) => Node::Word { at, word },
-            Run::Number(number) => Node::Number { at, number },
+            Run::Word(word) => TreeNode::Word { at, word },
+            Run::Number(number) => TreeNode::Number { at, number },
         }
     }
 }

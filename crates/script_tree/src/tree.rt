@@ -1,6 +1,6 @@
 //! A tree as the row of its pieces in reading order. A list is the piece where it opens, the pieces of its trees, and the
 //! piece where it closes. Contracts see a [`Tree`] as the definition's tree itself: that its pieces spell one tree and no
-//! more, and that its numbers fit into 64 bits, is its invariant, which [`Draft::into_tree`] asks for once.
+//! more, and that its numbers fit into 64 bits, is its invariant, which [`TreeDraft::into_tree`] asks for once.
 
 ghost use Rattle.std.specs.Prelude.{◌≡◌, [], ◌∷◌, ◌++◌, OnOk};
 ghost use Rattle.script_tree.specs.Fitting.{Fits};
@@ -11,7 +11,7 @@ use std::marker::Model;
 
 /// A word, a number or a text, or the beginning or the end of a list; `at` is the offset of its first byte in the input.
 #[derive(Drop)]
-pub enum Node {
+pub enum TreeNode {
     Word { at: u32, word: Vec<u8> },
     Number { at: u32, number: i64 },
     Text { at: u32, text: Vec<u8> },
@@ -22,7 +22,7 @@ pub enum Node {
 /// A tree of words, numbers, texts and lists, each with its place.
 #[derive(Drop)]
 pub struct Tree {
-    nodes: Vec<Node>,
+    nodes: Vec<TreeNode>,
 }
 
 impl Model for Tree {
@@ -49,7 +49,7 @@ impl Tree {
     ghost use Rattle.script_tree.specs.Pieces.{piece_of, pieces};
 
     /// Its pieces, in reading order.
-    pub fn nodes(&self) -> &[Node]
+    pub fn nodes(&self) -> &[TreeNode]
         ensures { map piece_of result.now ≡ pieces self.now }
     {
         &self.nodes
@@ -65,11 +65,11 @@ impl Tree {
 
 /// The pieces of a tree that is still being read.
 #[derive(Drop)]
-pub(crate) struct Draft {
-    nodes: Vec<Node>,
+pub(crate) struct TreeDraft {
+    nodes: Vec<TreeNode>,
 }
 
-impl Model for Draft {
+impl Model for TreeDraft {
     ghost use Rattle.std.specs.Prelude.{List, map};
     ghost use Rattle.script_tree.specs.Pieces.{Piece, piece_of};
 
@@ -83,21 +83,21 @@ impl Model for Draft {
     ghost invariant = { λ draft. Each Fits (map piece_of draft.nodes.items) };
 }
 
-impl Draft {
+impl TreeDraft {
     ghost use Rattle.std.specs.Prelude.{◌≡◌, [], ◌∷◌, ◌++◌, OnOk};
     ghost use Rattle.script_tree.specs.Pieces.{IsWhole, piece_of, tree_of};
 
     /// No pieces yet.
-    pub(crate) fn new(alloc: Global) -> Draft
+    pub(crate) fn new(alloc: Global) -> TreeDraft
         ensures { result ≡ [] }
     {
-        Draft {
+        TreeDraft {
             nodes: Vec::new(alloc),
         }
     }
 
     /// One more piece, behind the others.
-    pub(crate) fn push(&mut self, node: Node) -> Result<(), AllocError>
+    pub(crate) fn push(&mut self, node: TreeNode) -> Result<(), AllocError>
         ensures { OnOk result (self.new ≡ self.old ++ piece_of node ∷ []) }
     {
         fits(&node);
@@ -110,16 +110,16 @@ impl Draft {
         requires { IsWhole self }
         ensures { result ≡ tree_of self }
     {
-        let Draft { nodes } = self;
+        let TreeDraft { nodes } = self;
         Tree { nodes }
     }
 }
 
 /// The number of a node fits into 64 bits, as one that was read.
-fn fits(node: &Node)
+fn fits(node: &TreeNode)
     ensures { Fits (piece_of node.now) }
 {
-    if let Node::Number { number, .. } = node {
+    if let TreeNode::Number { number, .. } = node {
         let _number = *number;
     }
 }

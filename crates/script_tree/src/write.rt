@@ -11,7 +11,7 @@ ghost use Rattle.script_tree.specs.Pieces.{piece_of};
 ghost use Rattle.script_tree.specs.Spelled as spelled;
 ghost use Rattle.script_tree.specs.Fronts.{IsFront};
 
-use crate::tree::{Node, Tree};
+use crate::tree::{TreeNode, Tree};
 use eio_value::NoMemory;
 use itoa::Buffer;
 
@@ -34,7 +34,7 @@ pub fn write_tree(tree: &Tree, out: &mut Vec<u8>) -> Result<(), NoMemory>
 }
 
 /// Appends pieces and a line feed.
-fn push_document(nodes: &[Node], out: &mut Vec<u8>) -> Result<(), NoMemory>
+fn push_document(nodes: &[TreeNode], out: &mut Vec<u8>) -> Result<(), NoMemory>
     ensures ok { OnOk result (out.new.items ≡ out.old.items ++ (spelled.spelled false (map piece_of nodes.now) ++ line_feed ∷ [])) }
     ensures err { OnErr result (IsFront out.old.items out.new.items) }
     ensures room { vec_len out.old + length (spelled.spelled false (map piece_of nodes.now) ++ line_feed ∷ []) ≤ vec_capacity out.old → IsOk result }
@@ -46,7 +46,7 @@ fn push_document(nodes: &[Node], out: &mut Vec<u8>) -> Result<(), NoMemory>
 }
 
 /// Appends pieces, with a space before each tree that has one before it in its list.
-fn push_pieces(nodes: &[Node], out: &mut Vec<u8>) -> Result<(), NoMemory>
+fn push_pieces(nodes: &[TreeNode], out: &mut Vec<u8>) -> Result<(), NoMemory>
     ensures ok { OnOk result (out.new.items ≡ out.old.items ++ spelled.spelled false (map piece_of nodes.now)) }
     ensures err { OnErr result (IsFront out.old.items out.new.items) }
     ensures room { vec_len out.old + length (spelled.spelled false (map piece_of nodes.now)) ≤ vec_capacity out.old → IsOk result }
@@ -62,17 +62,17 @@ fn push_pieces(nodes: &[Node], out: &mut Vec<u8>) -> Result<(), NoMemory>
 }
 
 /// Whether a space is due before a piece, behind a tree of its list or not.
-fn is_space_due(behind_tree: bool, node: &Node) -> bool
+fn is_space_due(behind_tree: bool, node: &TreeNode) -> bool
     ensures { result ≡ spelled.is_space_due behind_tree (piece_of node.now) }
 {
-    behind_tree && !matches!(node, Node::Close)
+    behind_tree && !matches!(node, TreeNode::Close)
 }
 
 /// Whether a tree ends with a piece.
-fn ends_tree(node: &Node) -> bool
+fn ends_tree(node: &TreeNode) -> bool
     ensures { result ≡ spelled.ends_tree (piece_of node.now) }
 {
-    !matches!(node, Node::Open { .. })
+    !matches!(node, TreeNode::Open { .. })
 }
 
 /// Appends the space before a piece, where it is due.
@@ -89,18 +89,18 @@ fn push_gap(is_due: bool, out: &mut Vec<u8>) -> Result<(), NoMemory>
 }
 
 /// Appends a piece.
-fn push_piece(node: &Node, out: &mut Vec<u8>) -> Result<(), NoMemory>
+fn push_piece(node: &TreeNode, out: &mut Vec<u8>) -> Result<(), NoMemory>
     ensures ok { OnOk result (out.new.items ≡ out.old.items ++ spelled.piece_spelling (piece_of node.now)) }
     ensures err { OnErr result (IsFront out.old.items out.new.items) }
     ensures room { vec_len out.old + length (spelled.piece_spelling (piece_of node.now)) ≤ vec_capacity out.old → IsOk result }
     ensures capacity { vec_capacity out.old ≤ vec_capacity out.new }
 {
     match node {
-        Node::Word { word, .. } => push_bytes(word, out),
-        Node::Number { number, .. } => push_bytes(Buffer::new().format(*number).as_bytes(), out),
-        Node::Text { text, .. } => push_text(text, out),
-        Node::Open { .. } => push_bytes(b"(", out),
-        Node::Close => push_bytes(b")", out),
+        TreeNode::Word { word, .. } => push_bytes(word, out),
+        TreeNode::Number { number, .. } => push_bytes(Buffer::new().format(*number).as_bytes(), out),
+        TreeNode::Text { text, .. } => push_text(text, out),
+        TreeNode::Open { .. } => push_bytes(b"(", out),
+        TreeNode::Close => push_bytes(b")", out),
     }
 }
 

@@ -9,9 +9,9 @@ use Rattle.eio_value.specs.declared.raised.Raised.{Raised}
 use Rattle.spec_script.specs.Syntax.{Block, Forking, Group, ObjectCall, ObjectCallWith, ReaderCall, PathCall}
 
 -- a directory: a declared one by its number in order of declaration, or an opened one by the number that its opening answered
-pub data Place : Type 0 where
-  Declared : (number : ℕ) → Place
-  Opened : (number : ℕ) → Place
+pub data DirectoryRef : Type 0 where
+  Declared : (number : ℕ) → DirectoryRef
+  Opened : (number : ℕ) → DirectoryRef
 
 pub data Ask : Type 0 where
   Trace : List Value → Ask
@@ -46,9 +46,9 @@ pub data Ask : Type 0 where
   OpenWriter : (flow : ℕ) → Block → Ask
   PutText : (writer : ℕ) → (text : TextId) → Ask
   -- paths
-  OpenDirectory : Place → (path : TextId) → Block → Ask
-  OnPath : PathCall → Place → (path : TextId) → Ask
-  Save : (only_new : Bool) → Place → (path content : TextId) → Ask
+  OpenDirectory : DirectoryRef → (path : TextId) → Block → Ask
+  OnPath : PathCall → DirectoryRef → (path : TextId) → Ask
+  Save : (only_new : Bool) → DirectoryRef → (path content : TextId) → Ask
   -- the end of a block of a context; `late` where the block is a handler of a switch that had finished, whose value is refused
   Leave : (context : ℕ) → (late : Bool) → Outcome → Ask
   -- the end of a switch, of its handlers, or a further call: an exception that came, and the value of the body

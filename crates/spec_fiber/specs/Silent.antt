@@ -10,7 +10,7 @@ use Rattle.eio_value.specs.declared.raised.Raised.TheVariants.{One}
 use Rattle.spec_script.specs.Syntax.{Statement, Let, LetForm, If, Give, Raise, Try, Repeat, Loop, Trace, Yield, Check, AwaitCancel, Sub, Protect, Cancel, Switch, Fork, Fail, OnRelease, Branches, OnObject, OnObjectWith, UseRw, UsePool, Submit, Sleep, Now, BufRead, OnReader, TakeBytes, Copy, BufWrite, Put, OpenDir, OnPath, Save, Lock, Group, All, Any, Directory, Block, Begins, Statements, Done, Then, Blocks, NoBlocks, AndBlock}
 use Rattle.spec_script.specs.Syntax as syntax
 use Rattle.spec_fiber.specs.Evaluation.{Evaluated, Is, Raises, value_at, number_at, value_of, values_of, number_of, text_of}
-use Rattle.spec_fiber.specs.Asks.{Ask, Place}
+use Rattle.spec_fiber.specs.Asks.{Ask, DirectoryRef}
 use Rattle.spec_fiber.specs.Asks as ask
 use Rattle.spec_fiber.specs.Work.{Work, Carry, cut, bound, new_raise, caught}
 use Rattle.spec_fiber.specs.Work as work
@@ -52,7 +52,7 @@ abbrev pub blocks_of : Blocks → List Block
 blocks_of NoBlocks = []
 blocks_of (AndBlock block rest) = block ∷ blocks_of rest
 
-abbrev pub place_in : List Value → Directory → Place
+abbrev pub place_in : List Value → Directory → DirectoryRef
 place_in variables (syntax.Declared number) = ask.Declared number
 place_in variables (syntax.Opened slot) = ask.Opened (number_at variables slot)
 

@@ -15,7 +15,7 @@ use Rattle.spec_parts.specs.Contexts.{is_full}
 use Rattle.spec_script.specs.Syntax as syntax
 use Rattle.spec_script.specs.Syntax.{Block, ObjectCall, ObjectCallWith, ReaderCall, PathCall}
 use Rattle.spec_fiber.specs.Asks as ask
-use Rattle.spec_fiber.specs.Asks.{Ask, Place, Declared, Opened}
+use Rattle.spec_fiber.specs.Asks.{Ask, DirectoryRef, Declared, Opened}
 use Rattle.spec_fiber.specs.Numbered.{number_of}
 use Rattle.spec_machine.specs.Domain.{Role, OfJob, OnObject, Standing, Parked, Duty, Strike, Wake, Start, DomainState, fiber_at, off_for, is_full_by, wait_of}
 use Rattle.spec_machine.specs.Labels.{Asks, Idle, Own, Calls, Strikes, Mocks}
@@ -68,7 +68,7 @@ reader_call syntax.Char reader = mock.Char reader
 reader_call syntax.AtEnd reader = mock.AtEnd reader
 
 -- the number of a directory, which a declared and an opened one have alike
-abbrev pub place_number : Place → ℕ
+abbrev pub place_number : DirectoryRef → ℕ
 place_number (Declared number) = number
 place_number (Opened number) = number
 

@@ -7,11 +7,11 @@ use std::marker::Model;
 
 /// The values of variables, in order, seen as their list.
 #[derive(Drop)]
-pub struct Variables {
+pub struct HandlerVariables {
     values: Vec<Value>,
 }
 
-impl Model for Variables {
+impl Model for HandlerVariables {
     ghost use Rattle.std.specs.Prelude.{List};
     ghost use Rattle.eio_value.specs.declared.value.Value.{Value as Item};
 
@@ -20,12 +20,12 @@ impl Model for Variables {
     ghost view = { λ inside. inside.values.items };
 }
 
-impl Variables {
+impl HandlerVariables {
     /// These values.
-    pub fn new(values: Vec<Value>) -> Variables
+    pub fn new(values: Vec<Value>) -> HandlerVariables
         ensures { result ≡ values.items }
     {
-        Variables { values }
+        HandlerVariables { values }
     }
 
     /// The values, in order.
@@ -47,7 +47,7 @@ impl Variables {
 #[derive(Drop)]
 pub struct Handler {
     pub node: u32,
-    pub env: Variables,
+    pub env: HandlerVariables,
 }
 
 impl Model for Handler {

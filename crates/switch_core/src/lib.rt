@@ -13,5 +13,5 @@ mod switch;
 mod switches;
 
 pub use answers::{CloseStep, Finished, ReleaseFault};
-pub use handler::{Handler, Variables};
+pub use handler::{Handler, HandlerVariables};
 pub use switches::Switches;

@@ -7,7 +7,7 @@ use Rattle.spec_script.specs.Trees.{Tree}
 use Rattle.spec_script.specs.Faults as fault
 use Rattle.spec_script.specs.Faults.{TreeFault}
 use Rattle.test_commands.specs.Read.{tree}
-use Rattle.test_commands.specs.Run.{Told, answer}
+use Rattle.test_commands.specs.Run.{Shown, answer}
 
 script : List ℕ
 script = codes "(eio 1 (main (switch s (fork s (trace \"x\") (yield) (trace \"z\")) (trace \"y\"))))"
@@ -33,10 +33,10 @@ unfolding prefix_unclosed_at unclosed_at script places tree
 every_prefix_is_unclosed = refl
 
 -- what `mock` makes of the first n bytes
-prefix_mocked : ℕ → Told
+prefix_mocked : ℕ → Shown
 prefix_mocked n = answer (codes "mock" ∷ []) (take n script)
 
-refused_at : ℕ → Told
+refused_at : ℕ → Shown
 refused_at at = record { text = codes "!Refused Unclosed at " ++ decimal at ++ codes "\n"; status = 2 }
 
 every_prefix_is_refused : map prefix_mocked (range_with_len 0 78) ≡ map refused_at places

@@ -3,15 +3,15 @@ use Rattle.std.proofs.Common.{◌≡◌, ℕ, zero, suc, List, [], ◌∷◌, �
 use Rattle.std.specs.Prelude.{codes, decimal}
 use Rattle.std.specs.Fmt.{digits}
 use Rattle.std.specs.List.{flat_map, range_with_len}
-use Rattle.test_commands.specs.Run.{Told, answer, mocks, out_of_steps, limit}
+use Rattle.test_commands.specs.Run.{Shown, answer, mocks, out_of_steps, limit}
 
 times : ℕ → List ℕ → List ℕ
 times n text = flat_map (λ _. text) (range_with_len 0 n)
 
-mocks_bytes : List ℕ → Told
+mocks_bytes : List ℕ → Shown
 mocks_bytes bytes = answer (codes "mock" ∷ []) bytes
 
-mocks_bytes_in : ℕ → List ℕ → Told
+mocks_bytes_in : ℕ → List ℕ → Shown
 mocks_bytes_in n bytes = answer (codes "mock" ∷ codes "--steps" ∷ decimal n ∷ []) bytes
 
 -- an `all` of so many branches more, before which this runs

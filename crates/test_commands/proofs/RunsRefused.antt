@@ -1,7 +1,7 @@
 -- Inputs that commands refuse, words without a meaning, and inputs that are only spelled strangely.
 use Rattle.std.proofs.Common.{◌≡◌, ℕ, List, [], ◌∷◌, ◌++◌, refl}
 use Rattle.std.specs.Prelude.{codes, replicate}
-use Rattle.test_commands.specs.Run.{Told, answer, mocks, ok, refused, usage}
+use Rattle.test_commands.specs.Run.{Shown, answer, mocks, ok, refused, usage}
 
 -- ## Refused
 
@@ -41,7 +41,7 @@ cut_behind_a_text : mocks "(eio 1 (main (trace \"a\\tb\" " ≡ refused "!Refused
 unfolding mocks
 cut_behind_a_text = refl
 
-mocks_bytes : List ℕ → Told
+mocks_bytes : List ℕ → Shown
 mocks_bytes bytes = answer (codes "mock" ∷ []) bytes
 
 as_many_open_lists_as_may_be : mocks_bytes (replicate 64 40) ≡ refused "!Refused Unclosed at 63\n"
@@ -95,7 +95,7 @@ check_refuses = refl
 
 -- ## Words without a meaning
 
-on_an_empty_main : List (List ℕ) → Told
+on_an_empty_main : List (List ℕ) → Shown
 on_an_empty_main words = answer words (codes "(eio 1 (main))")
 
 no_words : on_an_empty_main [] ≡ usage

@@ -7,7 +7,7 @@ use eio_value::{NoMemory, Outcome, Value};
 use std::alloc::Global;
 use std::test::Fail;
 use stream_core::Stream;
-use wait_list::{MemWake, Told};
+use wait_list::{MemWake, MemSent};
 
 /// Two fibers wait to take; the first has entered twice.
 fn wait_to_take(alloc: Global, stream: &mut Stream)
@@ -22,7 +22,7 @@ fn wait_to_take(alloc: Global, stream: &mut Stream)
 /// The number that was handed to a taker.
 fn handed(wake: &MemWake) -> Option<i64> {
     match &wake.told {
-        Told::Resumed(_, Outcome::Ok(Value::Int(number))) => Some(*number),
+        MemSent::Resumed(_, Outcome::Ok(Value::Int(number))) => Some(*number),
         _ => None,
     }
 }

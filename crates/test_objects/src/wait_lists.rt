@@ -1,13 +1,13 @@
 //! Lists of waiting fibers, and the `Wake` in memory.
 
 ghost use Rattle.std.specs.Prelude.{◌≡◌, None};
-ghost use Rattle.wait_list.specs.Told.{sent_of};
+ghost use Rattle.wait_list.specs.MemSending.{sent_of};
 
 use crate::waits::{DEAD, all_alive, waiter, waking};
 use eio_value::{Answer, Job, NoMemory, Outcome, Value, Wake};
 use std::alloc::Global;
 use std::test::Fail;
-use wait_list::{MemWake, Queued, Told, WaitList};
+use wait_list::{MemWake, Queued, MemSent, WaitList};
 
 /// The fiber with this cell, in the wait with this stamp.
 fn fiber(cell: u32, armed: u64) -> Queued
@@ -48,7 +48,7 @@ fn is_told(list: &mut WaitList, wake: &mut MemWake) -> bool
     let off = matches!(list.wait(fiber(0, 13), true), Answer::Off);
     let waits = matches!(list.wait(fiber(0, 13), false), Answer::Waits);
     let woken = list.wake_first(wake, &Outcome::Ok(Value::Int(8)));
-    let told = matches!(wake.told, Told::Resumed(who, Outcome::Ok(Value::Int(8))) if who.cell == 0);
+    let told = matches!(wake.told, MemSent::Resumed(who, Outcome::Ok(Value::Int(8))) if who.cell == 0);
     off && waits && told && matches!(woken, Some(queued) if queued.number == 13)
 }
 
@@ -88,7 +88,7 @@ fn starts(wake: &mut MemWake) -> bool
         weight: 50,
     };
     wake.start(3, job, 4);
-    matches!(wake.told, Told::Started(3, job, 4) if job.weight == 50)
+    matches!(wake.told, MemSent::Started(3, job, 4) if job.weight == 50)
 }
 
 #[test]

@@ -1,7 +1,7 @@
 //! What the tests of shared objects have in common: waits, which of them are dead, and what calls answer.
 
 ghost use Rattle.std.specs.Prelude.{◌≡◌, None, IfOk};
-ghost use Rattle.wait_list.specs.Told.{sent_of};
+ghost use Rattle.wait_list.specs.MemSending.{sent_of};
 
 use eio_value::{Answer, NoMemory, Value, Waiter};
 use std::alloc::Global;

@@ -4,7 +4,7 @@
 
 use crate::unanswered::Unanswered;
 use eio_value::{Operands, Outcome, Plain, Raised, TextId, Texts, Value};
-use fiber_step::{Ask, Place};
+use fiber_step::{Ask, DirectoryRef};
 use script_lang::{Forking, Group, ObjectCall, ObjectCallWith, PathCall, ReaderCall};
 use std::str;
 
@@ -261,12 +261,12 @@ fn push_path(
     out: &mut String,
     texts: &Texts,
     word: &str,
-    place: &Place,
+    place: &DirectoryRef,
     path: &TextId,
 ) -> Result<(), Unanswered> {
     match place {
-        Place::Declared(number) => write!(out, "{word} declared {number} ")?,
-        Place::Opened(number) => write!(out, "{word} opened {number} ")?,
+        DirectoryRef::Declared(number) => write!(out, "{word} declared {number} ")?,
+        DirectoryRef::Opened(number) => write!(out, "{word} opened {number} ")?,
     }
     push_text(out, texts, path)
 }

@@ -8,7 +8,7 @@ use Rattle.spec_parts.specs.Data.{Submitted, Worker, Running, Work, Executor}
 use Rattle.spec_parts.specs.Executors.{executor}
 use Rattle.eio_value.specs.Sending.{Starts}
 use Rattle.spec_parts.specs.Row.{Row, Queued}
-use Rattle.test_spec_parts.proofs.Moves.{Move, waiter, by, off_by, strike, Told, Sends, Won, Lost, fine, waits, is_off, none, fine_and, number, queued, row, run, ran}
+use Rattle.test_spec_parts.proofs.Moves.{Move, waiter, by, off_by, strike, Reply, Sends, Won, Lost, fine, waits, is_off, none, fine_and, number, queued, row, run, ran}
 
 -- a job of this weight; its block has the same number
 abbrev job : ℕ → Job
@@ -24,7 +24,7 @@ abbrev finishing : ℕ → ℕ → Move
 finishing job result = by 9 (Done 0 job (number result))
 
 -- the job with this number, of this weight, starts in this domain
-abbrev starts : (domain : ℕ) → (number : ℕ) → (weight : ℕ) → Told
+abbrev starts : (domain : ℕ) → (number : ℕ) → (weight : ℕ) → Reply
 starts domain number weight = Sends (answer.Started domain number) (Starts (record { domain = domain; job = job weight; number = number }))
 
 abbrev worker : (place : ℕ) → (domain : ℕ) → (load : ℕ) → Worker

@@ -40,41 +40,41 @@ abbrev pub strike : ℕ → Move
 strike fiber = Strikes (waiter fiber)
 
 -- an answer, and what was sent; or whether a strike came in time
-pub data Told : Type 0 where
-  Says : Answer → Told
-  Sends : Answer → Sent → Told
-  Won : Told
-  Lost : Told
+pub data Reply : Type 0 where
+  Says : Answer → Reply
+  Sends : Answer → Sent → Reply
+  Won : Reply
+  Lost : Reply
 
 -- the call answers with this value
-abbrev pub gives : Value → Told
+abbrev pub gives : Value → Reply
 gives value = Says (answer.Done value)
 
-abbrev pub fine : Told
+abbrev pub fine : Reply
 fine = Says done
 
-abbrev pub waits : Told
+abbrev pub waits : Reply
 waits = Says answer.Waits
 
-abbrev pub is_off : Told
+abbrev pub is_off : Reply
 is_off = Says answer.Off
 
-abbrev pub none : Told
+abbrev pub none : Reply
 none = Says answer.Nothing
 
 -- an exception with this serial
-abbrev pub raises : ℕ → Plain → Told
+abbrev pub raises : ℕ → Plain → Reply
 raises serial what = Says (answer.Raised (raise serial what))
 
 -- fiber n goes on with this outcome
-abbrev pub fine_and : ℕ → Outcome → Told
+abbrev pub fine_and : ℕ → Outcome → Reply
 fine_and fiber given = Sends done (Resumes (waiter fiber) given)
 
-abbrev pub gives_and : Value → ℕ → Outcome → Told
+abbrev pub gives_and : Value → ℕ → Outcome → Reply
 gives_and value fiber given = Sends (answer.Done value) (Resumes (waiter fiber) given)
 
 -- the answer of a wake names the fiber
-abbrev pub woke : ℕ → Outcome → Told
+abbrev pub woke : ℕ → Outcome → Reply
 woke fiber given = Sends (answer.Woke (waiter fiber)) (Resumes (waiter fiber) given)
 
 abbrev pub unit : Outcome
@@ -95,20 +95,20 @@ abbrev pub row : Data → List Queued → List Queued → Row
 row values takers adders = record { values = values; takers = takers; adders = adders }
 
 pub record Ran : Type 0 where
-  pub told : List Told
+  pub told : List Reply
   pub row : Row
 
-abbrev pub ran : List Told → Row → Ran
+abbrev pub ran : List Reply → Row → Ran
 ran told end = record { told = told; row = end }
 
-abbrev told_of : Answer → Option Sent → Told
+abbrev told_of : Answer → Option Sent → Reply
 told_of answer None = Says answer
 told_of answer (Some sent) = Sends answer sent
 
-abbrev with_told : Told → Ran → Ran
+abbrev with_told : Reply → Ran → Ran
 with_told told rest = record { told = told ∷ rest.told; row = rest.row }
 
-abbrev won_or_lost : Bool → Told
+abbrev won_or_lost : Bool → Reply
 won_or_lost true = Won
 won_or_lost false = Lost
 

@@ -7,7 +7,7 @@ use mathlib.Core.Logic.{dite}
 use native.Mathlib.Decide.{ℕ_discrete}
 use Rattle.resume_cells.specs.declared.view.Deed.TheVariants.{Cancel}
 use Rattle.resume_cells.specs.declared.view.Mark.{Mark}
-use Rattle.resume_cells.specs.declared.view.Told.{Told}
+use Rattle.resume_cells.specs.declared.view.SeatLog.{SeatLog}
 use Rattle.resume_cells.specs.declared.cells.Decided.{Decided}
 use Rattle.resume_cells.specs.declared.cells.Decided.TheVariants.{Won, Lost}
 use Rattle.resume_cells.specs.Known.{last_armed, cancels, waiting, knows_below, CanArm}
@@ -18,18 +18,18 @@ use Rattle.resume_cells.specs.Views.{arm_of, decision_of}
 use Rattle.resume_cells.proofs.Cases.{or_false, and_left, and_right}
 
 -- the cells below n are armed, and no others
-pub record AreArmed (t : Told) (n : ℕ) : Type 0 where
+pub record AreArmed (t : SeatLog) (n : ℕ) : Type 0 where
   pub armed : (cell : ℕ) → cell < n → last_armed cell t.marks ≡ Some 1
   pub free : (cell : ℕ) → n ≤ cell → last_armed cell t.marks ≡ None
   pub kept : (cell : ℕ) → list_any (cancels cell 1) t.marks ≡ false
 
-pub none_armed : (t : Told) → t.marks ≡ [] → AreArmed t 0
+pub none_armed : (t : SeatLog) → t.marks ≡ [] → AreArmed t 0
 none_armed t e = record { armed = λ cell lt. absurd (omega arith); free = λ cell _. ap (last_armed cell) e; kept = λ cell. ap (λ (ms : List Mark). list_any (cancels cell 1) ms) e }
 
-abbrev more : Told → ℕ → Told
+abbrev more : SeatLog → ℕ → SeatLog
 more t n = record { marks = arm_of n 1 ∷ t.marks; finds = t.finds }
 
-pub one_more : (t : Told) (n : ℕ) → AreArmed t n → AreArmed (more t n) (n + 1)
+pub one_more : (t : SeatLog) (n : ℕ) → AreArmed t n → AreArmed (more t n) (n + 1)
 one_more t n a = record {
   armed = λ cell lt. dite (ℕ_discrete n cell)
       (λ same. ap (λ (b : Bool). if b && true then Some 1 else last_armed cell t.marks) (eq-eqb n cell same))
@@ -38,10 +38,10 @@ one_more t n a = record {
   kept = λ cell. or_false (cancels cell 1 (arm_of n 1)) _ (and_right (n == cell) _ refl) (a.kept cell);
 }
 
-abbrev Can : Told → ℕ → ℕ → Option ℕ → Type 0
+abbrev Can : SeatLog → ℕ → ℕ → Option ℕ → Type 0
 Can t cell stamp last = elim last [ None ↦ 0 < stamp | Some armed ↦ knows_below t cell armed stamp ≡ true ]
 
-pub can_arm : (t : Told) (cell stamp : ℕ) → last_armed cell t.marks ≡ None → 0 < stamp → CanArm t cell stamp
+pub can_arm : (t : SeatLog) (cell stamp : ℕ) → last_armed cell t.marks ≡ None → 0 < stamp → CanArm t cell stamp
 can_arm t cell stamp e some_stamp = subst (Can t cell stamp) (sym e) some_stamp
 
 module _ (waits : ℕ) where

@@ -11,7 +11,7 @@ use Rattle.turn_lock.specs.declared.view.View.{View}
 use Rattle.turn_lock.specs.declared.view.Ended.{Ended}
 use Rattle.turn_lock.specs.History.{StartsWith}
 use Rattle.turn_lock.specs.Numbers.{weight, Owns, Has, IsEnded, Counts, Numbered}
-use Rattle.turn_lock.specs.Rule.{waiting, first_view, Fits, Kept}
+use Rattle.turn_lock.specs.Rule.{waiting, first_view, Fits, KeptTurns}
 use Rattle.turn_lock.specs.Steps.{dealer, dealt, taking_in, spent}
 use Rattle.turn_lock.proofs.Views.{at_below, at_end, not_both, each_set, each_end, total_set, total_end, weighs, waits_none}
 
@@ -166,7 +166,7 @@ module _ {E : Type 0} where
 
   module _ {S : Type 0} (stands : S → List (ℕ × E) → Type 0) where
     pub opens : (passes : ℕ) (words : List ℕ) (x : S) → 0 < passes → passes ≤ 2 ^ 61 → length words ≡ 17 → slice_index words 0 ≡ 0 → slice_index words 16 ≡ 0 → stands x []
-        → Kept stands passes (opening words (Some x ∷ []) (first_view passes))
+        → KeptTurns stands passes (opening words (Some x ∷ []) (first_view passes))
     opens passes words x some_pass room long drawn served ok = let v : View E = first_view passes in record {
       log = [];
       words = long;
@@ -185,7 +185,7 @@ module _ {E : Type 0} where
       };
     }
 
-    pub deals : (passes id : ℕ) (v : View E) → v.live ≡ true → 0 < v.ahead → v.holds ≡ false → Splits (Kept stands passes) id v (dealer v) (dealt v)
+    pub deals : (passes id : ℕ) (v : View E) → v.live ≡ true → 0 < v.ahead → v.holds ≡ false → Splits (KeptTurns stands passes) id v (dealer v) (dealt v)
     deals passes id v live left free s k at =
         let each = each_dealt k.log s.views id v at live left in record {
           log = k.log;
@@ -218,7 +218,7 @@ module _ {E : Type 0} where
         }
 
     pub takes_in : (passes id : ℕ) (v : View E) (other : ℕ) (w : View E) → v.live ≡ true → v.holds ≡ false
-        → w.live ≡ true → w.holds ≡ false → w.waits ≡ false → w.ahead ≡ 0 → w.ended ≡ [] → Joins (Kept stands passes) id v other w (taking_in v w) spent
+        → w.live ≡ true → w.holds ≡ false → w.waits ≡ false → w.ahead ≡ 0 → w.ended ≡ [] → Joins (KeptTurns stands passes) id v other w (taking_in v w) spent
     takes_in passes id v other w live free other_live other_free quiet no_more took_none s k at ne at_w =
         let at_other : get_elem? s.views other ≡ some w = sym (set_else s.views id other (taking_in v w) ne) ∙ at_w in
         let each = each_joined k.log s.views id other v w at at_other ne live other_live no_more took_none in record {

@@ -13,7 +13,7 @@ use Rattle.turn_lock.specs.declared.view.View.{View}
 use Rattle.turn_lock.specs.declared.view.Ended.{Ended}
 use Rattle.turn_lock.specs.History.{entries_by, StartsWith}
 use Rattle.turn_lock.specs.Numbers.{total, weight, Owns, Has, Numbered}
-use Rattle.turn_lock.specs.Rule.{Kept}
+use Rattle.turn_lock.specs.Rule.{KeptTurns}
 use Rattle.turn_lock.specs.Passes.{PassView}
 use Rattle.turn_lock.specs.Gathering.{ended_of, known_to, backwards, Gathers}
 use Rattle.turn_lock.specs.Closing.{Closes}
@@ -44,7 +44,7 @@ module _ {E : Type 0} where
 
   module _ {S : Type 0} (stands : S → List (ℕ × E) → Type 0) where
     -- the value is at home, and what closing says holds of it
-    pub closes : (passes id : ℕ) (v : View E) (ps : List (PassView E)) (s : State (Maybe S) (View E)) → Kept stands passes s → get_elem? s.views id ≡ some v
+    pub closes : (passes id : ℕ) (v : View E) (ps : List (PassView E)) (s : State (Maybe S) (View E)) → KeptTurns stands passes s → get_elem? s.views id ≡ some v
         → v.live ≡ true → v.ahead ≡ 0 → v.holds ≡ false → known_to v ≡ backwards ps → length ps ≡ passes
         → (x : S) × (s.homes ≡ some (Some x) ∷ []) × Closes stands ps x
     closes passes id v ps s k at live no_more free knows many = ⊎_elim
@@ -91,7 +91,7 @@ module _ {E : Type 0} where
             has
 
     -- the slot of a turn that is closed has that value
-    pub closes_with : (passes id : ℕ) (v : View E) (ps : List (PassView E)) (words : List ℕ) (slots : List (Maybe S)) (found : Maybe S) → Final (Seen (Kept stands passes) id v) words slots → Gathers ps v → length ps ≡ passes
+    pub closes_with : (passes id : ℕ) (v : View E) (ps : List (PassView E)) (words : List ℕ) (slots : List (Maybe S)) (found : Maybe S) → Final (Seen (KeptTurns stands passes) id v) words slots → Gathers ps v → length ps ≡ passes
         → get_elem? slots 0 ≡ some found → (x : S) × (found ≡ Some x) × Closes stands ps x
     closes_with passes id v ps words slots found end all many at =
         let s = end.0 in let c = closes passes id v ps s end.1.0 end.1.1 all.live all.ahead all.holds all.knows many in

@@ -12,7 +12,7 @@ use Rattle.atomic_table.specs.Table.{State, Me, step, gives, keeps, takes, stepp
 use Rattle.atomic_table.proofs.Lists.{set_else, set_here, set_again}
 use Rattle.turn_lock.specs.declared.view.View.{View}
 use Rattle.turn_lock.specs.Numbers.{total, weight}
-use Rattle.turn_lock.specs.Rule.{waiting, Fits, IsPlaced, Kept}
+use Rattle.turn_lock.specs.Rule.{waiting, Fits, IsPlaced, KeptTurns}
 use Rattle.turn_lock.specs.Steps.{Draws, Looks, Leaves, given_on}
 use Rattle.turn_lock.specs.Passes.{Adds}
 use Rattle.turn_lock.proofs.Views.{at_below, not_both, is_false, each_set, total_set, total_less, waits_one, waits_none, longer}
@@ -32,7 +32,7 @@ set_same (x ∷ xs) (suc i) = ap (λ (ys : List ℕ). x ∷ ys) (set_same xs i)
 
 module _ {E S : Type 0} (stands : S → List (ℕ × E) → Type 0) where
   -- who waits is at work, so no more tickets are out than there are passes
-  tickets_few : (passes : ℕ) (s : State (Maybe S) (View E)) → Kept stands passes s → total waiting s.views ≤ passes
+  tickets_few : (passes : ℕ) (s : State (Maybe S) (View E)) → KeptTurns stands passes s → total waiting s.views ≤ passes
   tickets_few passes s k = let all = k.numbered.all in
       let less = total_less waiting weight s.views (λ by v at. one v v.waits refl (λ w. ((k.fits by v at).ticket w).0)) in omega arith
     where
@@ -49,7 +49,7 @@ module _ {E S : Type 0} (stands : S → List (ℕ × E) → Type 0) where
       p
 
   leaves : (passes slots id : ℕ) (v : View E) (x : S) (e : E) → v.holds ≡ true → stands x (v.seen ++ (v.number, e) ∷ [])
-      → Allows (Kept stands passes) slots id (v, (0, Some x) ∷ []) 16 (λ n. (n + 1) % 2 ^ 64) (Leaves (Some e) (step slots 16 1 0 none) (v, (0, Some x) ∷ []))
+      → Allows (KeptTurns stands passes) slots id (v, (0, Some x) ∷ []) 16 (λ n. (n + 1) % 2 ^ 64) (Leaves (Some e) (step slots 16 1 0 none) (v, (0, Some x) ∷ []))
   leaves passes slots id v x e h ok s k _ at _ =
       let was = k.fits id v at in
       let mine = was.holds h in
@@ -106,14 +106,14 @@ module _ {E S : Type 0} (stands : S → List (ℕ × E) → Type 0) where
 
   -- the turn is given on with the entry that is named
   pub leaves_named : (passes slots id : ℕ) (me : Me (Maybe S) (View E)) (v : View E) (x : S) (n : Maybe E) → me ≡ (v, (0, Some x) ∷ []) → v.holds ≡ true → Adds stands v.number v.seen x n
-      → Allows (Kept stands passes) slots id me 16 (λ k. (k + 1) % 2 ^ 64) (Leaves n (step slots 16 1 0 none) me)
+      → Allows (KeptTurns stands passes) slots id me 16 (λ k. (k + 1) % 2 ^ 64) (Leaves n (step slots 16 1 0 none) me)
   leaves_named passes slots id me v x None is h ok = absurd ok
-  leaves_named passes slots id me v x (Some e) is h ok = subst (λ (m : Me (Maybe S) (View E)). Allows (Kept stands passes) slots id m 16 (λ k. (k + 1) % 2 ^ 64) (Leaves (Some e) (step slots 16 1 0 none) m)) (sym is)
+  leaves_named passes slots id me v x (Some e) is h ok = subst (λ (m : Me (Maybe S) (View E)). Allows (KeptTurns stands passes) slots id m 16 (λ k. (k + 1) % 2 ^ 64) (Leaves (Some e) (step slots 16 1 0 none) m)) (sym is)
       (leaves passes slots id v x e h ok)
 
   -- a ticket is drawn
   pub draws : (passes slots id : ℕ) (me : Me (Maybe S) (View E)) → me.0.live ≡ true → me.0.waits ≡ false → me.0.holds ≡ false
-      → Allows (Kept stands passes) slots id me 0 (λ k. (k + 1) % 2 ^ 64) (Draws (step slots 0 1 0 none) me)
+      → Allows (KeptTurns stands passes) slots id me 0 (λ k. (k + 1) % 2 ^ 64) (Draws (step slots 0 1 0 none) me)
   draws passes slots id me live free none_held s k _ at _ =
       let v : View E = me.0 in
       let was = k.fits id v at in
@@ -175,16 +175,16 @@ module _ {E S : Type 0} (stands : S → List (ℕ × E) → Type 0) where
       )
 
   -- a look that changes nothing
-  unchanged : (passes id i : ℕ) (me : Me (Maybe S) (View E)) (s : State (Maybe S) (View E)) → Kept stands passes s → get_elem? s.views id ≡ some me.0
-      → Kept stands passes (stepped s i (slice_index s.words i) id me.1 me.0 keeps)
-  unchanged passes id i me s k at = subst (λ (z : List ℕ × List (View E)). Kept stands passes (record { words = z.0; homes = s.homes; views = z.1 }))
+  unchanged : (passes id i : ℕ) (me : Me (Maybe S) (View E)) (s : State (Maybe S) (View E)) → KeptTurns stands passes s → get_elem? s.views id ≡ some me.0
+      → KeptTurns stands passes (stepped s i (slice_index s.words i) id me.1 me.0 keeps)
+  unchanged passes id i me s k at = subst (λ (z : List ℕ × List (View E)). KeptTurns stands passes (record { words = z.0; homes = s.homes; views = z.1 }))
       (λ j. (sym (set_same s.words i) j, sym (set_again s.views id me.0 at) j)) k
 
   -- the pass is served, and takes the slot
-  takes_slot : (passes id : ℕ) (me : Me (Maybe S) (View E)) (s : State (Maybe S) (View E)) (k : Kept stands passes s) → get_elem? s.views id ≡ some me.0
+  takes_slot : (passes id : ℕ) (me : Me (Maybe S) (View E)) (s : State (Maybe S) (View E)) (k : KeptTurns stands passes s) → get_elem? s.views id ≡ some me.0
       → me.0.waits ≡ true → slice_index s.words 16 ≡ me.0.ticket → slice_index s.words 16 < 2 ^ 62
       → (x : S) → s.homes ≡ some (Some x) ∷ [] → ((by : ℕ) (v : View E) → get_elem? s.views by ≡ some v → v.holds ≡ false)
-      → Kept stands passes (stepped s 16 (slice_index s.words 16) id me.1 (record me.0 { holds = true; seen = k.log }) (takes 0 (Some x)))
+      → KeptTurns stands passes (stepped s 16 (slice_index s.words 16) id me.1 (record me.0 { holds = true; seen = k.log }) (takes 0 (Some x)))
   takes_slot passes id me s k at waits is small x home none_holds =
       let v : View E = me.0 in
       let was = k.fits id v at in
@@ -228,7 +228,7 @@ module _ {E S : Type 0} (stands : S → List (ℕ × E) → Type 0) where
 
   -- a pass that waits looks whether it is served
   pub looks : (passes slots id : ℕ) (me : Me (Maybe S) (View E)) → me.0.waits ≡ true → me.0.holds ≡ false
-      → Allows (Kept stands passes) slots id me 16 (λ n. n) (Looks stands (step slots 16 0 0 none) me)
+      → Allows (KeptTurns stands passes) slots id me 16 (λ n. n) (Looks stands (step slots 16 0 0 none) me)
   looks passes slots id me waits free s k _ at _ =
       let n : ℕ = slice_index s.words 16 in
       dite (ℕ_discrete n me.0.ticket)

@@ -33,7 +33,7 @@ module _ {E : Type 0} where
         ((x : S) × (homes ≡ some (Some x) ∷ []) × stands x log × ((by : ℕ) (v : View E) → get_elem? views by ≡ some v → v.holds ≡ false))
         ⊎ ((id : ℕ) × (holder : View E) × (homes ≡ none ∷ []) × (get_elem? views id ≡ some holder) × (holder.holds ≡ true) × ((by : ℕ) (v : View E) → get_elem? views by ≡ some v → v.holds ≡ true → by ≡ id))
 
-    pub record Kept (passes : ℕ) (s : State (Maybe S) (View E)) : Type 0 where
+    pub record KeptTurns (passes : ℕ) (s : State (Maybe S) (View E)) : Type 0 where
       pub log : List (ℕ × E)
       pub words : length s.words ≡ 17
       pub served : slice_index s.words 16 ≡ length log

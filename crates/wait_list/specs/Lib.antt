@@ -2,5 +2,5 @@ pub mod Lists
 pub mod Finding
 pub mod Standing
 pub mod Waits
-pub mod Told
+pub mod MemSending
 pub mod Meeting

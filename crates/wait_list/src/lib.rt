@@ -14,5 +14,5 @@ mod mem_wake;
 mod queued;
 
 pub use list::WaitList;
-pub use mem_wake::{MemWake, Told};
+pub use mem_wake::{MemWake, MemSent};
 pub use queued::Queued;

@@ -2,13 +2,13 @@
 
 ghost use Rattle.std.specs.Prelude.{◌≡◌, true, refl};
 ghost use Rattle.std.proofs.Common.{◌∙◌};
-ghost use Rattle.wait_list.specs.Told.{is_among, woken_stamp};
+ghost use Rattle.wait_list.specs.MemSending.{is_among, woken_stamp};
 
 use eio_value::{Job, Outcome, Waiter, Wake, Woken};
 
 /// What was sent.
 #[derive(Clone, Copy)]
-pub enum Told {
+pub enum MemSent {
     Nothing,
     Resumed(Waiter, Outcome),
     Started(u8, Job, u64),
@@ -18,18 +18,18 @@ pub enum Told {
 #[derive(Drop)]
 pub struct MemWake {
     pub dead: Vec<(u32, u64)>,
-    pub told: Told,
+    pub told: MemSent,
 }
 
 impl MemWake {
     /// These waits are dead, and nothing was sent.
     pub fn new(dead: Vec<(u32, u64)>) -> MemWake
         ensures dead { result.dead ≡ dead }
-        ensures told { result.told ≡ Told.Nothing }
+        ensures told { result.told ≡ MemSent.Nothing }
     {
         MemWake {
             dead,
-            told: Told::Nothing,
+            told: MemSent::Nothing,
         }
     }
 
@@ -38,8 +38,8 @@ impl MemWake {
         ensures { result ≡ woken_stamp self.now.told }
     {
         match &self.told {
-            Told::Resumed(who, _) => Some(who.armed),
-            Told::Nothing | Told::Started(_, _, _) => None,
+            MemSent::Resumed(who, _) => Some(who.armed),
+            MemSent::Nothing | MemSent::Started(_, _, _) => None,
         }
     }
 }
@@ -54,7 +54,7 @@ fn is_dead(waits: &[(u32, u64)], who: Waiter) -> bool
 }
 
 impl Wake for MemWake {
-    ghost use Rattle.wait_list.specs.Told.{sent_of};
+    ghost use Rattle.wait_list.specs.MemSending.{sent_of};
 
     ghost knows = { λ wake. is_among wake.dead.items };
 
@@ -72,11 +72,11 @@ impl Wake for MemWake {
         if is_dead(self.dead.as_slice(), who) {
             return Woken::Lost;
         }
-        self.told = Told::Resumed(who, outcome);
+        self.told = MemSent::Resumed(who, outcome);
         Woken::Won
     }
 
     fn start(&mut self, domain: u8, job: Job, number: u64) {
-        self.told = Told::Started(domain, job, number);
+        self.told = MemSent::Started(domain, job, number);
     }
 }

@@ -62,16 +62,16 @@ module _ (kept all : Contexts) (are : AreContexts kept all) where
   childless_alike c childless x lives is =
       childless x (answers_alike.live x ∙ lives) (ap (λ (y : Context). y.parent) (answers_alike.stand x lives) ∙ is)
 
-  live_there : (c : ℕ) → is_live kept.made c ≡ true → is_live all.made c ≡ true
-  live_there c lives = sym (answers_alike.live c) ∙ lives
+  lives_in_all : (c : ℕ) → is_live kept.made c ≡ true → is_live all.made c ≡ true
+  lives_in_all c lives = sym (answers_alike.live c) ∙ lives
 
   -- the condition of a call, as code sees it, is met where nothing is forgotten
   may_alike : (call : ContextCall) → MayCall call kept → MayCall call all
   may_alike Root may = tt
-  may_alike (Sub parent) may = live_there parent may
-  may_alike (Protect parent) may = live_there parent may
+  may_alike (Sub parent) may = lives_in_all parent may
+  may_alike (Protect parent) may = lives_in_all parent may
   may_alike (Cancel c why) may = tt
-  may_alike (Wait c fiber) may = live_there c may
+  may_alike (Wait c fiber) may = lives_in_all c may
   may_alike (Unwait fiber) may = tt
   may_alike (End c) may = record { childless = childless_alike c may.childless; idle = ap (waits_in c) (sym answers_alike.waiting) ∙ may.idle }
 
@@ -80,7 +80,7 @@ module _ (kept all : Contexts) (are : AreContexts kept all) where
 
   pub childless_here : (c : ℕ) → HasNoLiveChild all.made c → HasNoLiveChild kept.made c
   childless_here c childless x lives is = (
-      let there : is_live all.made x ≡ true = live_there x lives in
+      let there : is_live all.made x ≡ true = lives_in_all x lives in
       childless x there (ap (λ (y : Context). y.parent) (sym (answers_alike.stand x there)) ∙ is))
 
   -- and the other way

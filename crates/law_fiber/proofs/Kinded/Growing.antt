@@ -4,7 +4,7 @@ use Rattle.eio_value.specs.declared.value.Value.{Value}
 use Rattle.eio_value.specs.declared.value.Value.TheVariants as value
 use Rattle.spec_script.specs.Kinds.{Kind, VariableKind, ContextKind, SwitchKind, ReaderKind, WriterKind, CapabilityKind}
 use Rattle.spec_fiber.specs.Asks as ask
-use Rattle.spec_fiber.specs.Asks.{Ask, Place}
+use Rattle.spec_fiber.specs.Asks.{Ask, DirectoryRef}
 use Rattle.spec_fiber.specs.Replies.{Position}
 use Rattle.spec_fiber.specs.Work as work
 use Rattle.spec_fiber.specs.Work.{Work}
@@ -37,7 +37,7 @@ module _ (facts : Facts) (More : Kind → ℕ → Type 0) (grows : (kind : Kind)
   kinds_grow (kind ∷ slots) [] has = absurd has
   kinds_grow (kind ∷ slots) (it ∷ variables) has = (kind_grows kind it has.0, kinds_grow slots variables has.1)
 
-  place_grows : (place : Place) → HasKindOfPlace facts place → HasKindOfPlace grown place
+  place_grows : (place : DirectoryRef) → HasKindOfPlace facts place → HasKindOfPlace grown place
   place_grows (ask.Declared number) has = has
   place_grows (ask.Opened number) has = grows CapabilityKind number has
 

@@ -6,7 +6,7 @@ use Rattle.eio_value.specs.declared.value.Value.{Value}
 use Rattle.eio_value.specs.declared.raised.Outcome.{Outcome}
 use Rattle.eio_value.specs.declared.raised.Raised.{Raised}
 use Rattle.spec_script.specs.Syntax.{Block, Forking, Group, ObjectCall, ObjectCallWith, ReaderCall, PathCall}
-use Rattle.spec_fiber.specs.Asks.{Ask, Place}
+use Rattle.spec_fiber.specs.Asks.{Ask, DirectoryRef}
 use Rattle.spec_fiber.specs.Asks as ask
 use Rattle.law_fiber.specs.Calls.Sights.{Sight, SeesBlock}
 use Rattle.law_fiber.specs.Calls.Alike.{Tables, IsSameText, AlikeLists, AlikeOptions, AlikeValue, AlikeRaised, AlikeOutcome}
@@ -43,11 +43,11 @@ pub data AlikeAsk (sight : Sight) (tables : Tables) : Ask → Ask → Type 0 whe
   Copies : (from to : ℕ) → AlikeAsk sight tables (ask.Copy from to) (ask.Copy from to)
   OpenWriters : (flow : ℕ) (body : Block) → SeesBlock sight body → AlikeAsk sight tables (ask.OpenWriter flow body) (ask.OpenWriter flow body)
   Puts : (writer : ℕ) {a b : TextId} → IsSameText tables a b → AlikeAsk sight tables (ask.PutText writer a) (ask.PutText writer b)
-  Openings : (place : Place) {a b : TextId} (body : Block) → IsSameText tables a b → SeesBlock sight body
+  Openings : (place : DirectoryRef) {a b : TextId} (body : Block) → IsSameText tables a b → SeesBlock sight body
       → AlikeAsk sight tables (ask.OpenDirectory place a body) (ask.OpenDirectory place b body)
-  OnPaths : (call : PathCall) (place : Place) {a b : TextId} → IsSameText tables a b
+  OnPaths : (call : PathCall) (place : DirectoryRef) {a b : TextId} → IsSameText tables a b
       → AlikeAsk sight tables (ask.OnPath call place a) (ask.OnPath call place b)
-  Saves : (only_new : Bool) (place : Place) {a b content text : TextId} → IsSameText tables a b → IsSameText tables content text
+  Saves : (only_new : Bool) (place : DirectoryRef) {a b content text : TextId} → IsSameText tables a b → IsSameText tables content text
       → AlikeAsk sight tables (ask.Save only_new place a content) (ask.Save only_new place b text)
   Leaves : (context : ℕ) (late : Bool) {a b : Outcome} → AlikeOutcome tables a b
       → AlikeAsk sight tables (ask.Leave context late a) (ask.Leave context late b)

@@ -14,7 +14,7 @@ use Rattle.spec_script.specs.Scripts.{Script}
 use Rattle.spec_script.specs.Syntax.{Block, Statements}
 use Rattle.law_script.specs.Scripts.Soundness.{Known, Has, IsIn, IsSoundForking, HasItsBranches, IsSoundBlock, AreSoundStatements, kinds_of}
 use Rattle.spec_fiber.specs.Asks as ask
-use Rattle.spec_fiber.specs.Asks.{Ask, Place}
+use Rattle.spec_fiber.specs.Asks.{Ask, DirectoryRef}
 use Rattle.spec_fiber.specs.Numbered.{number_of, block_numbered, blocks_from, blocks_of_statements}
 use Rattle.spec_fiber.specs.Replies.{Position}
 use Rattle.spec_fiber.specs.Settling.{Settled}
@@ -80,7 +80,7 @@ FitsBlock facts slots block = IsSoundBlock (knows facts slots) block × All fact
 
 -- ## Calls
 
-abbrev pub HasKindOfPlace : Facts → Place → Type 0
+abbrev pub HasKindOfPlace : Facts → DirectoryRef → Type 0
 HasKindOfPlace facts (ask.Declared number) = Has (knows facts []) DirectoryKind number
 HasKindOfPlace facts (ask.Opened number) = facts.names CapabilityKind number
 

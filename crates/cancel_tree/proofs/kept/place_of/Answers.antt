@@ -1,7 +1,7 @@
 use Rattle.std.proofs.Common.{rules, ◌≡◌, ◌<◌, Some, length, arith, refl, sym, ap, ◌∙◌, nat_lt, true≢false}
 use Rattle.std.specs.Prelude.{slice_get}
 use Rattle.std.proofs.lemmas.List.Sorted.{IsPartitionPoint-from_clause}
-use Rattle.cancel_tree.specs.declared.kept.Place.{Place}
+use Rattle.cancel_tree.specs.declared.kept.ContextKey.{ContextKey}
 use Rattle.cancel_tree.specs.Places.{place_at}
 use Rattle.cancel_tree.proofs.Finding.{Parts, first_are_lower, place_found, if_number, if_number-is, if_number-other, slice_get-at, slice_get-past}
 use Rattle.cancel_tree.proofs.kept.place_of.Goals as goal
@@ -9,7 +9,7 @@ use Rattle.cancel_tree.proofs.kept.place_of.Goals.{After-partition_point-index, 
 
 parts : (c : After-partition_point-index) → Parts c.args.c c.args.places.now.items c.partition_point-index.result
 parts c =
-    let found = IsPartitionPoint-from_clause (λ (place : Place). nat_lt place.number c.args.c) c.args.places.now.items c.partition_point-index.result
+    let found = IsPartitionPoint-from_clause (λ (place : ContextKey). nat_lt place.number c.args.c) c.args.places.now.items c.partition_point-index.result
     c.partition_point-index.ensures.partitioned (first_are_lower c.args.c _ c.requires) (λ a r f' k. search rules) in
     record { within = rw (← c.args.places.now.ok.0) c.partition_point-index.ensures.bound; before = found.0; behind = found.1 }
 

@@ -3,8 +3,8 @@ use Rattle.std.specs.Prelude.{slice_get, is_some}
 use Rattle.std.proofs.lemmas.List.Sorted.{IsPartitionPoint-from_clause}
 use Rattle.slab.specs.Slab.{get}
 use Rattle.spec_parts.specs.Contexts.{is_live}
-use Rattle.cancel_tree.specs.declared.kept.Place.{Place}
-use Rattle.cancel_tree.specs.Kept.{contexts_in}
+use Rattle.cancel_tree.specs.declared.kept.ContextKey.{ContextKey}
+use Rattle.cancel_tree.specs.KeptContext.{contexts_in}
 use Rattle.cancel_tree.specs.Places.{place_at}
 use Rattle.cancel_tree.specs.Endings.{HasNoLiveChild, without}
 use Rattle.cancel_tree.proofs.Finding.{Parts, first_are_lower, place_found, at_index, slice_get-at, slice_get-within, rest_of, FoundAt}
@@ -17,7 +17,7 @@ use Rattle.cancel_tree.proofs.tree.Tree.end.Goals.{After-partition_point-index, 
 -- the index parts the numbers at c
 parts : (c : After-partition_point-index) → Parts c.args.c c.self.inside.places.items c.partition_point-index.result
 parts c =
-    let found = IsPartitionPoint-from_clause (λ (place : Place). nat_lt place.number c.args.c) c.self.inside.places.items c.partition_point-index.result
+    let found = IsPartitionPoint-from_clause (λ (place : ContextKey). nat_lt place.number c.args.c) c.self.inside.places.items c.partition_point-index.result
     c.partition_point-index.ensures.partitioned (first_are_lower c.args.c _ c.self.invariant.tree.rise) (λ a r f' k. search rules) in
     record { within = rw (← c.self.inside.places.ok.0) c.partition_point-index.ensures.bound; before = found.0; behind = found.1 }
 
@@ -46,7 +46,7 @@ pub remove-requires-2 : goal.remove-requires-2
 remove-requires-2 c =
     let found = placed (goal.at.remove-requires-2 c).After-partition_point-index in
     let there = is_there c.self.inside.made c.self.inside.kept c.self.inside.places.items c.self.invariant.tree found.place (at_own c.self.inside.places.items c.args.c found.place found.at) in
-    has_value _ there.0 (ap (λ (place : Place). get c.self.inside.kept place.key) (sym (removed (goal.at.remove-requires-2 c).In-Some found)) ∙ there.1)
+    has_value _ there.0 (ap (λ (place : ContextKey). get c.self.inside.kept place.key) (sym (removed (goal.at.remove-requires-2 c).In-Some found)) ∙ there.1)
 
 -- where the removed place stood
 at_removed : (c : In-Some) → (found : FoundAt c.self.inside.places.items c.args.c c.partition_point-index.result)

@@ -1,6 +1,6 @@
 use Rattle.std.proofs.Common.{Some, None, ◌∙◌, sym, ap, subst}
 use Rattle.spec_parts.specs.Contexts.{goes_up_to}
-use Rattle.cancel_tree.specs.Kept.{contexts_in}
+use Rattle.cancel_tree.specs.KeptContext.{contexts_in}
 use Rattle.cancel_tree.proofs.Trees.{UpGoesOn, up_begins, up_ends, up_goes_towards, goes_up_to_itself, lower_towards, is_there, has_value}
 use Rattle.cancel_tree.proofs.tree.Tree.goes_up_to.Goals as goal
 use Rattle.cancel_tree.proofs.tree.Tree.goes_up_to.Goals.{In-Some}

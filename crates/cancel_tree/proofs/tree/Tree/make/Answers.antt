@@ -1,8 +1,8 @@
 use Rattle.std.proofs.Common.{◌≡◌, ◌<◌, ◌+◌, ◌++◌, ◌∷◌, [], Some, None, true, false, ◌∙◌, sym, ap, length, arith}
 use Rattle.std.specs.Option.{option_map}
 use Rattle.spec_parts.specs.Contexts.{is_full, is_live, live_count, new_context}
-use Rattle.cancel_tree.specs.declared.kept.Place.{Place}
-use Rattle.cancel_tree.specs.Kept.{contexts_in}
+use Rattle.cancel_tree.specs.declared.kept.ContextKey.{ContextKey}
+use Rattle.cancel_tree.specs.KeptContext.{contexts_in}
 use Rattle.cancel_tree.specs.Places.{place_at}
 use Rattle.cancel_tree.specs.Jumps.{JumpsUnder}
 use Rattle.cancel_tree.proofs.Jumping.{jumps_made, if_some}
@@ -17,14 +17,14 @@ overflow_add-self c =
     omega (arith, few)
 
 -- the parent's place is found
-parent_found : (c : Joined-parent) → (option_map (λ (place : Place). place.number) c.match-parent.above ≡ c.args.parent) × ((p : Place) → c.match-parent.above ≡ Some p → place_at c.self.inside.places.items p.number ≡ Some p)
+parent_found : (c : Joined-parent) → (option_map (λ (place : ContextKey). place.number) c.match-parent.above ≡ c.args.parent) × ((p : ContextKey) → c.match-parent.above ≡ Some p → place_at c.self.inside.places.items p.number ≡ Some p)
 parent_found c = elim c.match-parent.branch [
   | in-Some w ↦
       let lives : is_live (contexts_in c.self.inside.made c.self.inside.kept c.self.inside.places.items) w.in-Some.number ≡ true = ap (λ contexts. is_live contexts w.in-Some.number) c.self.view_is ∙ c.requires.live w.in-Some.number w.in-Some.is in
       let at : c.match-parent.above ≡ place_at c.self.inside.places.items w.in-Some.number = w.above-is ∙ w.place_of-above.ensures in
       let found = parent_is_placed c.self.inside.made c.self.inside.kept c.self.inside.places.items c.self.invariant.tree w.in-Some.number c.match-parent.above lives at in
       (found.0 ∙ sym w.in-Some.is, found.1)
-  | in-None w ↦ (ap (option_map (λ (place : Place). place.number)) w.above-is ∙ sym w.in-None.is, λ p e. let none : c.match-parent.above ≡ None = w.above-is in cc)
+  | in-None w ↦ (ap (option_map (λ (place : ContextKey). place.number)) w.above-is ∙ sym w.in-None.is, λ p e. let none : c.match-parent.above ≡ None = w.above-is in cc)
 ]
 
 pub invariant_of-self : goal.invariant_of-self

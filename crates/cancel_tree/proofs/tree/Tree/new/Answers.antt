@@ -1,5 +1,5 @@
 use Rattle.std.proofs.Common.{refl}
-use Rattle.cancel_tree.specs.Kept.{contexts_in, listed}
+use Rattle.cancel_tree.specs.KeptContext.{contexts_in, listed}
 use Rattle.cancel_tree.proofs.tree.Tree.new.Goals as goal
 
 pub invariant_of-result : goal.invariant_of-result

@@ -1,6 +1,6 @@
 use Rattle.std.proofs.Common.{Some, None, ◌∙◌, sym, ap, subst, List}
 use Rattle.spec_parts.specs.Contexts.{Context, off}
-use Rattle.cancel_tree.specs.Kept.{contexts_in}
+use Rattle.cancel_tree.specs.KeptContext.{contexts_in}
 use Rattle.cancel_tree.proofs.Trees.{OffGoesOn, off_begins, off_ends, off_goes_on, lower_next, is_there, has_value}
 use Rattle.cancel_tree.proofs.tree.Tree.off.Goals as goal
 use Rattle.cancel_tree.proofs.tree.Tree.off.Goals.{After-place_of-next, In-Some}

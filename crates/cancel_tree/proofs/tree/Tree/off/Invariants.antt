@@ -1,4 +1,4 @@
-use Rattle.cancel_tree.specs.Kept.{contexts_in}
+use Rattle.cancel_tree.specs.KeptContext.{contexts_in}
 use Rattle.cancel_tree.proofs.Trees.{OffGoesOn, height}
 use Rattle.cancel_tree.proofs.tree.Tree.off.Given as goal
 

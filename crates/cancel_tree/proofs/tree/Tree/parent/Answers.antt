@@ -1,8 +1,8 @@
 use Rattle.std.proofs.Common.{◌≡◌, Some, None, ◌∙◌, sym, ap}
 use Rattle.std.specs.Option.{option_map}
 use Rattle.spec_parts.specs.Contexts.{Context, context_at}
-use Rattle.cancel_tree.specs.declared.kept.Place.{Place}
-use Rattle.cancel_tree.specs.Kept.{context_of}
+use Rattle.cancel_tree.specs.declared.kept.ContextKey.{ContextKey}
+use Rattle.cancel_tree.specs.KeptContext.{context_of}
 use Rattle.cancel_tree.specs.Places.{place_at}
 use Rattle.cancel_tree.proofs.Trees.{absent_there, stands_there, is_there, at_own, has_value}
 use Rattle.cancel_tree.proofs.tree.Tree.parent.Goals as goal
@@ -26,11 +26,11 @@ returns-in-Some-parent c =
     let stands : context_at c.args.self.now c.args.c ≡ context_of (Some c.index.result.now) =
     ap (λ contexts. context_at contexts c.args.c) (sym c.self.view_is)
     ∙ stands_there c.self.inside.made c.self.inside.kept c.self.inside.places.items c.self.invariant.tree c.args.c c.in-Some.place c.index.result.now (at (goal.at.returns-in-Some-parent c).In-Some) c.index.ensures in
-    sym (ap (λ (context : Context). context.parent) stands ∙ ap (option_map (λ (place : Place). place.number)) c.in-Some-parent.is)
+    sym (ap (λ (context : Context). context.parent) stands ∙ ap (option_map (λ (place : ContextKey). place.number)) c.in-Some-parent.is)
 
 pub returns-in-None : goal.returns-in-None
 returns-in-None c =
     let stands : context_at c.args.self.now c.args.c ≡ context_of (Some c.index.result.now) =
     ap (λ contexts. context_at contexts c.args.c) (sym c.self.view_is)
     ∙ stands_there c.self.inside.made c.self.inside.kept c.self.inside.places.items c.self.invariant.tree c.args.c c.in-Some.place c.index.result.now (at (goal.at.returns-in-None c).In-Some) c.index.ensures in
-    sym (ap (λ (context : Context). context.parent) stands ∙ ap (option_map (λ (place : Place). place.number)) c.in-None.is)
+    sym (ap (λ (context : Context). context.parent) stands ∙ ap (option_map (λ (place : ContextKey). place.number)) c.in-None.is)

@@ -10,7 +10,7 @@ returns-in-Trace-clause-answers c =
 
 pub returns-in-Yield-clause-answers : goal.returns-in-Yield-clause-answers
 returns-in-Yield-clause-answers c =
-    subst (λ (call : Ask). Answers c.args.script.now call c.args.fiber c.args.self.now c.give_way.new.told c.give_way.new.self) (sym c.in-Yield.is) (c.give_way.ensures.answers c.args.script.now)
+    subst (λ (call : Ask). Answers c.args.script.now call c.args.fiber c.args.self.now c.yield_now.new.told c.yield_now.new.self) (sym c.in-Yield.is) (c.yield_now.ensures.answers c.args.script.now)
 
 pub returns-in-Check-clause-answers : goal.returns-in-Check-clause-answers
 returns-in-Check-clause-answers c = on_ok_weaker c.check.result

@@ -1,0 +1,23 @@
+use Rattle.std.proofs.Common.{rules, ◌≡◌, ◌<◌, ◌∙◌, ap, subst, arith}
+use Rattle.fiber_step.specs.Turning.{with_mark}
+use Rattle.fiber_step.specs.declared.mark.Mark.TheVariants as mark
+use Rattle.fiber_step.specs.Stating.{binding}
+use Rattle.fiber_step.proofs.Drafts.{drafted_is}
+use Rattle.fiber_step.proofs.Stated.{binding_more}
+use Rattle.fiber_step.proofs.draft.FiberDraft.bind.Goals as goal
+
+pub binding-preserved : goal.binding-preserved
+binding-preserved c =
+    let was = c.binding.self.now in
+    let pushed : c.push.new.self.now ≡ with_mark (mark.Bind c.slots-slot.result) was = search rules in
+    let same : c.push.new.self.fiber ≡ c.binding.self.fiber = search rules in
+    let some : 0 < c.binding.left = search rules in (
+      same ∙ c.binding.invariant.0,
+      binding_more c.binding.left was c.push.new.self.now some (pushed ∙ ap (λ n. with_mark (mark.Bind n) was) c.slots-slot.ensures) ∙ c.binding.invariant.1,
+    )
+
+pub returns : goal.returns
+returns c =
+    let none : c.binding.left ≡ 0 = let over = c.binding-test.false in omega (arith, over) in
+    drafted_is c.binding.self c.args.self.now.fiber (binding c.args.lets c.args.self.now.now) c.binding.invariant.0
+    (subst (λ n. binding n c.binding.self.now ≡ binding c.args.lets c.args.self.now.now) none c.binding.invariant.1)
