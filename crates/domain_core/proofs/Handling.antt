@@ -17,8 +17,8 @@ use Rattle.spec_fiber.specs.Asks as asks
 use Rattle.spec_fiber.specs.Numbered.{number_of, block_numbered}
 use Rattle.spec_fiber.specs.Replies.{Position, handled}
 use Rattle.spec_parts.specs.Switches.{Handler}
-use Rattle.fiber_step.specs.Blocks.Beginnings.{BeginsBlock, StandsAtNumber, IsSoundSomewhere, blocks_in}
-use Rattle.fiber_step.proofs.Blocks.Beginning.{blocks_by_node}
+use Rattle.fiber_step.specs.Numbering.Beginnings.{BeginsBlock, StandsAtNumber, IsSoundSomewhere, blocks_in}
+use Rattle.fiber_step.proofs.Numbering.Beginning.{blocks_by_node}
 use Rattle.fiber_step.specs.declared.ask.Ask.{Ask}
 use Rattle.fiber_step.specs.Having.{HasStatements}
 use Rattle.fiber_step.specs.Standing.{ask_of}

@@ -3,7 +3,7 @@ use Rattle.std.proofs.Common.{◌≡◌, inl, inr, ℕ, ◌+◌, ◌<◌, ◌≤
 use Rattle.std.specs.Prelude.{is_some}
 use Rattle.std.specs.List.{Contains}
 use Rattle.std.proofs.lemmas.List.Elements.{All-contains}
-use Rattle.fiber_step.proofs.Blocks.Finding.{blocks_by_number}
+use Rattle.fiber_step.proofs.Numbering.Finding.{blocks_by_number}
 use Rattle.cancel_tree.specs.Forgetting as forgetting
 use Rattle.law_domain.specs.Kinded.KindedStates.{IsKinded, IsKindedHandler, handlers_of, made_facts}
 use Rattle.law_domain.specs.Sound.Conditions as laws

@@ -1,7 +1,7 @@
 -- What the methods of a domain ask, in the words of what is kept.
 use Rattle.std.specs.Prelude.{◌≡◌, ◌≢◌, ℕ, ◌+◌, ◌<◌, ◌≤◌, ◌⊎◌, Bool, true, false, is_some, [], length, Option, Some}
 use Rattle.std.specs.List.{Contains}
-use Rattle.fiber_step.specs.Blocks.Beginnings.{BeginsBlock}
+use Rattle.fiber_step.specs.Numbering.Beginnings.{BeginsBlock}
 use Rattle.cancel_tree.specs.Endings.{HasNoLiveChild}
 use Rattle.cancel_tree.specs.Waits.{waits, waits_in}
 use Rattle.law_domain.specs.Kinded.KindedStates.{handlers_of}

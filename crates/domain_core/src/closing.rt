@@ -2,7 +2,7 @@
 //! switch and no handler is left.
 
 ghost use Rattle.std.specs.Prelude.{◌≡◌, ◌<◌, ◌-◌, ◌^◌, [], length, Contains, OnOk};
-ghost use Rattle.fiber_step.specs.Blocks.Beginnings.{BeginsBlock};
+ghost use Rattle.fiber_step.specs.Numbering.Beginnings.{BeginsBlock};
 ghost use Rattle.law_domain.specs.Kinded.KindedStates.{handlers_of};
 ghost use Rattle.eio_value.specs.declared.raised.Outcome.TheVariants as outcome;
 ghost use Rattle.spec_machine.specs.SwitchMoves.{runs};

@@ -27,4 +27,4 @@ pub mod Throws
 pub mod Traced
 pub mod Turns
 pub mod Unwinds
-pub mod Blocks
+pub mod Numbering

@@ -15,4 +15,4 @@ pub mod Throwing
 pub mod Turning
 pub mod Unwinding
 pub mod Weighing
-pub mod Blocks
+pub mod Numbering

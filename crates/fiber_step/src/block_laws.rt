@@ -1,6 +1,6 @@
 //! Laws of the numbers of blocks.
 
-ghost use Rattle.fiber_step.specs.Blocks.Laws.{BlocksByNumber, NumbersRise, BlocksByNode};
+ghost use Rattle.fiber_step.specs.Numbering.Laws.{BlocksByNumber, NumbersRise, BlocksByNode};
 
 /// Looked up by its number, each block of a script that is read is found.
 pub fn blocks_by_number()

@@ -1,4 +1,4 @@
-use Rattle.fiber_step.proofs.Blocks.Finding.{numbers_rise}
+use Rattle.fiber_step.proofs.Numbering.Finding.{numbers_rise}
 use Rattle.fiber_step.proofs.block_laws.numbers_rise.Goals as goal
 
 pub returns : goal.returns

@@ -12,8 +12,8 @@ use Rattle.spec_fiber.specs.Numbered.{block_numbered}
 use Rattle.spec_fiber.specs.Replies.{handled}
 use Rattle.spec_fiber.specs.Asks as asks
 use Rattle.spec_parts.specs.Switches.{Handler}
-use Rattle.fiber_step.specs.Blocks.Beginnings.{BeginsBlock}
-use Rattle.fiber_step.proofs.Blocks.Beginning.{blocks_by_node}
+use Rattle.fiber_step.specs.Numbering.Beginnings.{BeginsBlock}
+use Rattle.fiber_step.proofs.Numbering.Beginning.{blocks_by_node}
 use Rattle.fiber_step.specs.declared.ask.Ask.{Ask}
 use Rattle.fiber_step.specs.declared.ask.Ask.TheVariants as ask
 use Rattle.fiber_step.specs.Having.{HasStatements}

@@ -5,7 +5,7 @@ use Rattle.std.specs.List.{AllByRecursion as Each}
 use Rattle.spec_script.specs.Syntax as syntax
 use Rattle.spec_script.specs.Syntax.{Statement, Statements, Done, Then, Block, Begins, Blocks, NoBlocks, AndBlock}
 use Rattle.spec_fiber.specs.Numbered.{blocks_from, blocks_of_statement, blocks_of_statements, blocks_of_branches}
-use Rattle.fiber_step.proofs.Blocks.Lists.{each_both, each_first, each_second}
+use Rattle.fiber_step.proofs.Numbering.Lists.{each_both, each_first, each_second}
 
 -- this block, and each inside it, is such a one
 abbrev pub From : (Block → Type 0) → Block → Type 0

@@ -9,9 +9,9 @@ use Rattle.spec_script.specs.Scripts.{Script}
 use Rattle.spec_script.specs.Syntax.{Block, Begins, Done}
 use Rattle.script_code.specs.Numbered.{HasNumbers}
 use Rattle.spec_fiber.specs.Numbered.{number_of, block_numbered}
-use Rattle.fiber_step.specs.Blocks.Beginnings.{blocks_in}
-use Rattle.fiber_step.specs.Blocks.Laws.{FoundByNumber, AllFoundByNumber, FoundHasNumber, BlocksByNumber, NumbersRise}
-use Rattle.fiber_step.proofs.Blocks.Rising.{Rise, bodies_rise}
+use Rattle.fiber_step.specs.Numbering.Beginnings.{blocks_in}
+use Rattle.fiber_step.specs.Numbering.Laws.{FoundByNumber, AllFoundByNumber, FoundHasNumber, BlocksByNumber, NumbersRise}
+use Rattle.fiber_step.proofs.Numbering.Rising.{Rise, bodies_rise}
 
 -- the look-up of a number
 abbrev look_up : (number : ℕ) → List Block → Option Block

@@ -13,8 +13,8 @@ use Rattle.script_code.specs.Standing.{statements_at}
 use Rattle.script_code.specs.Unflat.{Behind, first_rest, unflat}
 use Rattle.script_forms.specs.declared.node.Node.{Node}
 use Rattle.spec_fiber.specs.Numbered.{blocks_from, blocks_of_statement, blocks_of_statements, blocks_of_branches}
-use Rattle.fiber_step.specs.Blocks.Beginnings.{StandsAtNumber}
-use Rattle.fiber_step.proofs.Blocks.Lists.{each_both}
+use Rattle.fiber_step.specs.Numbering.Beginnings.{StandsAtNumber}
+use Rattle.fiber_step.proofs.Numbering.Lists.{each_both}
 
 -- each of these blocks stands there
 abbrev pub ArePlaced : List Node → List Block → Type 0

@@ -7,8 +7,8 @@ use Rattle.spec_script.specs.Syntax as syntax
 use Rattle.spec_script.specs.Syntax.{Statement, Statements, Done, Then, Block, Begins, Blocks, NoBlocks, AndBlock}
 use Rattle.law_script.specs.Scripts.Soundness.{Known, with_slot, in_job, behind, IsSoundStatement, IsSoundBlock, AreSoundStatements, AreSoundBlocks}
 use Rattle.spec_fiber.specs.Numbered.{blocks_from, blocks_of_statement, blocks_of_statements, blocks_of_branches}
-use Rattle.fiber_step.specs.Blocks.Beginnings.{IsSoundSomewhere}
-use Rattle.fiber_step.proofs.Blocks.Lists.{each_both}
+use Rattle.fiber_step.specs.Numbering.Beginnings.{IsSoundSomewhere}
+use Rattle.fiber_step.proofs.Numbering.Lists.{each_both}
 
 abbrev AreGood : List Block → Type 0
 AreGood blocks = Each IsSoundSomewhere blocks

@@ -8,7 +8,7 @@ use Rattle.script_forms.specs.Flat.{nodes_of}
 use Rattle.script_code.specs.Numbered.{HasNumbers}
 use Rattle.script_code.specs.Standing.{block_at}
 use Rattle.script_forms.specs.declared.node.Node.{Node}
-use Rattle.fiber_step.specs.Blocks.Beginnings.{blocks_in, BeginsBlock, StandsAtNumber, IsSoundSomewhere, blocks_named}
+use Rattle.fiber_step.specs.Numbering.Beginnings.{blocks_in, BeginsBlock, StandsAtNumber, IsSoundSomewhere, blocks_named}
 
 -- ## By number
 

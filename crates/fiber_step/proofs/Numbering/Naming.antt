@@ -7,8 +7,8 @@ use Rattle.spec_script.specs.Syntax.{Expression, Expressions, NoExpressions, And
 use Rattle.script_forms.specs.Flat.{flat_expression, flat_expressions, numbers_of, flat_statement, flat_statements, flat_blocks, flat_bodies}
 use Rattle.script_forms.specs.declared.node.Node.{Node}
 use Rattle.spec_fiber.specs.Numbered.{number_of, blocks_from, blocks_of_statement, blocks_of_statements, blocks_of_branches}
-use Rattle.fiber_step.specs.Blocks.Beginnings.{blocks_named}
-use Rattle.fiber_step.proofs.Blocks.Lists.{each_both, each_first, each_second}
+use Rattle.fiber_step.specs.Numbering.Beginnings.{blocks_named}
+use Rattle.fiber_step.proofs.Numbering.Lists.{each_both, each_first, each_second}
 
 -- the number of a block is such a one
 abbrev pub Has : (ℕ → Type 0) → Block → Type 0

@@ -9,7 +9,7 @@ use Rattle.script_code.specs.Numbered.{IsNumbered, IsNumberedBlock, AreNumbered,
 use Rattle.script_code.specs.Standing.{statements_at, block_at}
 use Rattle.script_forms.specs.declared.node.Group.TheVariants as group
 use Rattle.script_forms.specs.declared.node.Node.TheVariants as node
-use Rattle.fiber_step.specs.Blocks.Beginnings.{blocks_in, blocks_named}
+use Rattle.fiber_step.specs.Numbering.Beginnings.{blocks_in, blocks_named}
 
 abbrev inner : Block
 inner = Begins 2 (Then Yield Done)

@@ -10,13 +10,13 @@ use Rattle.script_forms.specs.Flat.{nodes_of}
 use Rattle.script_code.specs.Standing.{block_at}
 use Rattle.script_forms.specs.declared.node.Node.{Node}
 use Rattle.spec_fiber.specs.Numbered.{number_of, blocks_from, blocks_of_statements, block_numbered}
-use Rattle.fiber_step.specs.Blocks.Beginnings.{blocks_in, BeginsBlock, StandsAtNumber, IsSoundSomewhere, blocks_named}
-use Rattle.fiber_step.specs.Blocks.Laws.{BlocksStand, BlocksAreSound, FoundByNode, BodiesBegin, NamedBegin, InsideAreIts, BlocksByNode}
-use Rattle.fiber_step.proofs.Blocks.Finding.{found_by_number}
-use Rattle.fiber_step.proofs.Blocks.Inside.{From, bodies_inside}
-use Rattle.fiber_step.proofs.Blocks.Naming.{AllHave, AllName, bodies_name}
-use Rattle.fiber_step.proofs.Blocks.Placing.{bodies_placed}
-use Rattle.fiber_step.proofs.Blocks.Sound.{bodies_good}
+use Rattle.fiber_step.specs.Numbering.Beginnings.{blocks_in, BeginsBlock, StandsAtNumber, IsSoundSomewhere, blocks_named}
+use Rattle.fiber_step.specs.Numbering.Laws.{BlocksStand, BlocksAreSound, FoundByNode, BodiesBegin, NamedBegin, InsideAreIts, BlocksByNode}
+use Rattle.fiber_step.proofs.Numbering.Finding.{found_by_number}
+use Rattle.fiber_step.proofs.Numbering.Inside.{From, bodies_inside}
+use Rattle.fiber_step.proofs.Numbering.Naming.{AllHave, AllName, bodies_name}
+use Rattle.fiber_step.proofs.Numbering.Placing.{bodies_placed}
+use Rattle.fiber_step.proofs.Numbering.Sound.{bodies_good}
 
 none_some : {A : Type 0} (x : A) → None ≡ Some x → ⊥
 none_some x e = cc

@@ -1,0 +1,9 @@
+pub mod Rows
+pub mod Lists
+pub mod Rising
+pub mod Finding
+pub mod Placing
+pub mod Sound
+pub mod Naming
+pub mod Inside
+pub mod Beginning
