@@ -80,8 +80,8 @@ on_slot {c = c} {d = d} call asked slot sees alike carry =
     (asks_alike (alike (number_at c.variables slot)) carry)
 
 -- a call on a directory
-on_directory : {sight : Sight} {c d : Carry} (call asked : ask.Place → ask.Ask) (directory : Directory) → SeesDirectory sight directory
-    → ((place : ask.Place) → calls.AlikeAsk sight (tables_of c d) (call place) (asked place)) → AlikeCarry sight c d
+on_directory : {sight : Sight} {c d : Carry} (call asked : ask.DirectoryRef → ask.Ask) (directory : Directory) → SeesDirectory sight directory
+    → ((place : ask.DirectoryRef) → calls.AlikeAsk sight (tables_of c d) (call place) (asked place)) → AlikeCarry sight c d
     → AlikeWent sight (tables_of c d) (asks (call (place_in c.variables directory)) c) (asks (asked (place_in d.variables directory)) d)
 on_directory {sight} {c} {d} call asked directory sees alike carry =
     subst (λ place. AlikeWent sight (tables_of c d) (asks (call (place_in c.variables directory)) c) (asks (asked place) d))
