@@ -1,6 +1,6 @@
 pub mod Steps
 pub mod Statements
 pub mod FeatureScripts
-pub mod NextLists
+pub mod GroupForms
 pub mod Rows
 mod Worked

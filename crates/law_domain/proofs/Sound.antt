@@ -33,7 +33,6 @@ pub mod Preparing
 pub mod Keeping
 pub mod Following
 pub mod Opening
-pub mod FirstForms
 pub mod EndingAlone
 pub mod Conditions
 mod Rows

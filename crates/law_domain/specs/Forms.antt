@@ -1,5 +1,2 @@
 pub mod FeatureForms
-pub mod Lists
-pub mod ExceptionForms
-pub mod SwitchForms
 pub mod Laws

@@ -1,7 +1,7 @@
 //! Laws of what one domain is between two moves.
 
 ghost use Rattle.law_domain.specs.Sound.Conditions.{MovesMayCall, SwitchesAreSound};
-ghost use Rattle.law_domain.specs.Sound.Laws.{BodyEndsAlone, BuiltSettle, FibersRunInLive, FirstAreBuilt, HasRoomBehind};
+ghost use Rattle.law_domain.specs.Sound.Laws.{BodyEndsAlone, BuiltSettle, FibersRunInLive, HasRoomBehind};
 ghost use Rattle.law_domain.specs.Sound.Laws.{KeepsSound, OpensSound, ScopesEndAlone, ScopesSettle};
 
 /// What a fiber has gone into and not left is seen of its work: silent statements go into nothing and out of nothing, and
@@ -13,11 +13,6 @@ pub fn scopes_settle()
 /// A fiber whose work has the built forms alone makes a call of these forms, with such work behind it, whatever came.
 pub fn built_forms_settle()
     ensures { BuiltSettle }
-{}
-
-/// A script of the first forms alone has the forms that are built.
-pub fn first_forms_are_built()
-    ensures { FirstAreBuilt }
 {}
 
 /// A domain that has just started is sound.

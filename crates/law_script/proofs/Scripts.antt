@@ -11,8 +11,6 @@ pub mod FormedOperands
 pub mod FormedItems
 pub mod SharedStatements
 pub mod SharedScripts
-pub mod FirstStatements
-pub mod FirstScripts
 pub mod Commands
 pub mod Unsound
 pub mod Bare

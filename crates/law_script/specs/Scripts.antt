@@ -1,7 +1,6 @@
 pub mod Numbers
 pub mod Soundness
 pub mod Sharing
-pub mod FirstForms
 pub mod Readings
 pub mod Meanings
 pub mod Printing

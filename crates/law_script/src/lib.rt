@@ -6,5 +6,10 @@
 mod script_laws;
 mod tree_laws;
 
-pub use script_laws::{first_forms_alone, generated_is_a_script, places_dont_count, print_reads_again, read_scripts_are_sound, shared_scripts_have_no_mocked_form};
-pub use tree_laws::{canonical_has_no_places, canonical_is_read, read_is_spelled, read_is_within, spelled_is_read};
+pub use script_laws::{
+    generated_is_a_script, places_dont_count, print_reads_again, read_scripts_are_sound,
+    shared_scripts_have_no_mocked_form,
+};
+pub use tree_laws::{
+    canonical_has_no_places, canonical_is_read, read_is_spelled, read_is_within, spelled_is_read,
+};

@@ -1,6 +1,5 @@
 //! Laws of scripts and their reading.
 
-ghost use Rattle.law_script.specs.Scripts.FirstForms.{FirstFormsAlone};
 ghost use Rattle.law_script.specs.Scripts.Generated.{GeneratedAreScripts};
 ghost use Rattle.law_script.specs.Scripts.Meanings.{PlacesDontCount};
 ghost use Rattle.law_script.specs.Scripts.Printing.{PrintIsReadAgain, PrintStandsForTheScript};
@@ -21,12 +20,6 @@ pub fn read_scripts_are_sound()
 pub fn shared_scripts_have_no_mocked_form()
     ensures trees { SharedScriptsHaveNoMockedForm }
     ensures domains { DomainScriptsAreShared }
-{}
-
-/// A script of which no form is refused as unbuilt, where the first forms are all that is built, has no other form than
-/// `switch`, `fork`, `trace` of texts and `yield`, in whatever depth.
-pub fn first_forms_alone()
-    ensures { FirstFormsAlone }
 {}
 
 /// Trees that are the same but for their places stand for the same script, places aside, or are both refused for the same

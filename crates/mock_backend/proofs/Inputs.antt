@@ -14,7 +14,7 @@ use Rattle.script_code.specs.Numbered.{HasNumbers}
 use Rattle.std.specs.List.{flat_map, All}
 use Rattle.std.proofs.lemmas.List.Elements.{All-contains_itself}
 use Rattle.fiber_step.proofs.Numbering.Finding.{blocks_by_number}
-use Rattle.law_domain.proofs.Forms.NextLists.{mocked_group_forms}
+use Rattle.law_domain.proofs.Forms.GroupForms.{mocked_group_forms}
 use Rattle.law_fiber.specs.Kinded.Kinds.{IsOfScript}
 use Rattle.law_script.proofs.Scripts.Commands.{mocked_is_sound}
 use Rattle.law_fiber.proofs.Texts.ReadScripts.{read_scripts_have_texts}

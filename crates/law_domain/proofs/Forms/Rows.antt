@@ -1,9 +1,8 @@
--- Worked scripts: what each of the lists refuses, and what the judgements make of what they don't.
+-- Worked scripts: what today's list refuses, and what the judgements make of what it doesn't.
 use Rattle.std.proofs.Common.{◌≡◌, ℕ, List, [], ◌∷◌, Option, Some, None, Result, Ok, Err, refl}
 use Rattle.std.specs.List.{AllByRecursion as Each}
 use Rattle.std.specs.Prelude.{codes}
 use Rattle.law_domain.specs.Sound.BuiltForms.{IsBuilt, IsBuiltBlock, AreBuiltBranches, AreBuilt}
-use Rattle.law_script.specs.Scripts.FirstForms.{first_built}
 use Rattle.spec_script.specs.Captures.{captured_behind}
 use Rattle.spec_script.specs.Declarations.{workers, declaration, declarations_behind}
 use Rattle.spec_script.specs.declared.Feature.TheVariants.{Exceptions, Groups, Resources}
@@ -19,11 +18,9 @@ use Rattle.spec_script.specs.Refusals.{Refusal, input_tree}
 use Rattle.spec_script.specs.Scopes.{bring, used, directory_of}
 use Rattle.spec_script.specs.Scripts.{Script, domains, script_of}
 use Rattle.spec_script.specs.Statements.{statements}
-use Rattle.spec_script.specs.Syntax.{Statement, Trace, Switch, Fork, Daemon, Branches, Both, All, NoExpressions, Block, Begins, Done, Then, NoBlocks}
-use Rattle.law_domain.specs.Forms.ExceptionForms.{IsExceptionForm, IsExceptionBlock, AreExceptionForms}
+use Rattle.spec_script.specs.Syntax.{Statement, Trace, Switch, Branches, Both, All, NoExpressions, Block, Begins, Done, Then, NoBlocks}
 use Rattle.law_domain.specs.Forms.FeatureForms.{IsOf, IsBlockOf, AreBranchesOf, AreOf}
-use Rattle.law_domain.specs.Forms.Lists.{with_exceptions, with_switches, with_groups}
-use Rattle.law_domain.specs.Forms.SwitchForms.{IsSwitchForm, IsSwitchBlock, AreSwitchForms}
+use Rattle.law_domain.specs.Forms.Laws.{with_groups}
 
 -- the script of an input
 unfoldable script : List ℕ → Result Script Refusal
@@ -39,46 +36,33 @@ unfoldable bodies : List ℕ → List Block
 unfolding script
 bodies bytes = elim (script bytes) [ Ok it ↦ it.bodies | Err e ↦ [] ]
 
--- ## Exceptions and cancellation
+-- ## Scripts
 
+-- exceptions and cancellation
 abbrev cancelled : List ℕ
 cancelled = codes "(eio 1 (main (let x (sub c (cancel c \"a\"))) (try ((raise \"b\")) e ((trace (unit) e))) (switch s (fork s (check)))))"
 
-cancelled_first : first_unbuilt first_built cancelled ≡ Some 13
-unfolding first_unbuilt
-cancelled_first = refl
-
-cancelled_is_built : first_unbuilt with_exceptions cancelled ≡ None
+cancelled_is_built : first_unbuilt with_groups cancelled ≡ None
 unfolding first_unbuilt
 cancelled_is_built = refl
 
-cancelled_has_these_forms : Each IsExceptionBlock (bodies cancelled)
-unfolding bodies IsExceptionForm IsExceptionBlock AreExceptionForms
+cancelled_has_these_forms : Each IsBuiltBlock (bodies cancelled)
+unfolding bodies IsBuilt IsBuiltBlock AreBuiltBranches AreBuilt
 cancelled_has_these_forms = (((tt, tt), (((tt, tt), (tt, tt)), (((tt, tt), tt), tt))), tt)
 
-a_daemon : first_unbuilt with_exceptions (codes "(eio 1 (main (switch s (fork-daemon s))))") ≡ Some 23
-unfolding first_unbuilt
-a_daemon = refl
-
--- ## Whole switches
-
+-- whole switches
 abbrev released : List ℕ
 released = codes "(eio 1 (main (switch s (fork-daemon s) (on-release s (yield)) (fail s \"a\"))))"
 
-released_is_built : first_unbuilt with_switches released ≡ None
+released_is_built : first_unbuilt with_groups released ≡ None
 unfolding first_unbuilt
 released_is_built = refl
 
-released_has_these_forms : Each IsSwitchBlock (bodies released)
-unfolding bodies IsSwitchForm IsSwitchBlock AreSwitchForms
+released_has_these_forms : Each IsBuiltBlock (bodies released)
+unfolding bodies IsBuilt IsBuiltBlock AreBuiltBranches AreBuilt
 released_has_these_forms = (((tt, ((tt, tt), (tt, tt))), tt), tt)
 
-no_groups : first_unbuilt with_switches (codes "(eio 1 (main (loop (all))))") ≡ Some 19
-unfolding first_unbuilt
-no_groups = refl
-
--- ## Groups
-
+-- groups
 abbrev grouped : List ℕ
 grouped = codes "(eio 1 (main (both ((yield)) ()) (all) (any)))"
 
@@ -103,18 +87,6 @@ no_clock = refl
 
 abbrev in_switch : Statement → Block
 in_switch it = Begins 0 (Then (Switch (Begins 1 (Then it Done))) Done)
-
-daemons_are_no_exceptions : IsExceptionBlock (in_switch (Fork Daemon 0 (Begins 2 Done))) → ⊥
-unfolding IsExceptionForm IsExceptionBlock AreExceptionForms
-daemons_are_no_exceptions is = is.0.0
-
-daemons_are_of_switches : IsSwitchBlock (in_switch (Fork Daemon 0 (Begins 2 Done)))
-unfolding IsSwitchForm IsSwitchBlock AreSwitchForms
-daemons_are_of_switches = ((tt, tt), tt)
-
-groups_are_not : IsSwitchBlock (in_switch (Branches All NoBlocks)) → ⊥
-unfolding IsSwitchForm IsSwitchBlock AreSwitchForms
-groups_are_not is = is.0.0
 
 all_of_nothing : IsBuiltBlock (in_switch (Branches All NoBlocks))
 unfolding IsBuilt IsBuiltBlock AreBuiltBranches AreBuilt

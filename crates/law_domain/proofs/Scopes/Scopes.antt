@@ -53,7 +53,7 @@ closes_more low high le (Close switch keep ∷ work) h = (omega (arith, h.0), cl
 closes_more low high le (Closing switch kept ∷ work) h = (omega (arith, h.0), closes_more low high le work h.1)
 closes_more low high le (mark ∷ work) h = closes_more low high le work h
 
-pub call_more : (low high : ℕ) → low ≤ high → (call : Ask) → ClosesCall low call → ClosesCall high call
+call_more : (low high : ℕ) → low ≤ high → (call : Ask) → ClosesCall low call → ClosesCall high call
 call_more low high le (ask.Close switch came kept) h = omega (arith, h)
 call_more low high le call h = tt
 
@@ -68,12 +68,6 @@ standing_more s n s_high n_high le more (Ready next) h = tt
 standing_more s n s_high n_high le more (Parked (ForOthers call)) h = (call_more s s_high le call h.0, joins_more n n_high more call h.1)
 standing_more s n s_high n_high le more (Parked wait) h = tt
 standing_more s n s_high n_high le more (Ended it) h = tt
-
-pub closes_append : (bound : ℕ) (front behind : List Work) → Closes bound front → Closes bound behind → Closes bound (front ++ behind)
-closes_append bound [] behind h k = k
-closes_append bound (Close switch keep ∷ front) behind h k = (h.0, closes_append bound front behind h.1 k)
-closes_append bound (Closing switch kept ∷ front) behind h k = (h.0, closes_append bound front behind h.1 k)
-closes_append bound (mark ∷ front) behind h k = closes_append bound front behind h k
 
 -- ## The part of a domain that is looked at
 

@@ -5,7 +5,6 @@ use Rattle.eio_value.specs.declared.raised.Outcome.TheVariants as outcome
 use Rattle.eio_value.specs.declared.value.Value.TheVariants as value
 use Rattle.spec_parts.specs.Contexts.{is_live, way_within}
 use Rattle.spec_parts.specs.Switches.{switch_at}
-use Rattle.law_script.specs.Scripts.FirstForms.{IsFirst, IsFirstBlock, AreFirst, HasFirstForms}
 use Rattle.spec_script.specs.Opening.{opening_texts}
 use Rattle.spec_script.specs.Scripts.{Script}
 use Rattle.spec_script.specs.Syntax.{Yield, Switch, Fork, Plain, Block, Begins, Done, Then}
@@ -23,7 +22,7 @@ use Rattle.spec_machine.specs.Moves.{asks, own_call, after, line_of}
 use Rattle.spec_machine.specs.Preparing.{prepared, carry_of}
 use Rattle.spec_machine.specs.Runs.{Noted, DomainMoves}
 use Rattle.spec_machine.specs.Steps.{waiting_from}
-use Rattle.law_domain.specs.Sound.BuiltForms.{HasBuiltForms, AreBuiltWork, IsBuiltCall}
+use Rattle.law_domain.specs.Sound.BuiltForms.{IsBuilt, IsBuiltBlock, AreBuilt, HasBuiltForms, AreBuiltWork, IsBuiltCall}
 use Rattle.law_domain.specs.Sound.Conditions.{Calls, HasSoundSwitches}
 use Rattle.law_domain.specs.Sound.Laws.{body_of, IsLast}
 use Rattle.law_domain.specs.Sound.Scopes.{Scope, InSwitch, InGroup, called_scope, context_in, is_end, scopes_in, scopes_of}
@@ -31,7 +30,6 @@ use Rattle.law_domain.specs.Sound.SoundStates.{IsSoundState, attached_to}
 use Rattle.law_domain.proofs.Sound.BuiltSettle.{built_settle}
 use Rattle.law_domain.proofs.Sound.Conditions.{moves_may_call, switches_are_sound}
 use Rattle.law_domain.proofs.Sound.EndingAlone.{body_ends_alone, fibers_run_in_live, has_room_behind, scopes_end_alone}
-use Rattle.law_domain.proofs.Sound.FirstForms.{first_are_built}
 use Rattle.law_domain.proofs.Sound.Keeping.{keeps_sound}
 use Rattle.law_domain.proofs.Sound.Opening.{opens_sound}
 use Rattle.law_domain.proofs.Sound.ScopesSettle.{scopes_settle}
@@ -50,12 +48,9 @@ main = Begins 0 (Then (Switch inner) Done)
 abbrev pub script : Script
 script = record { names = []; declarations = []; bodies = main ∷ []; texts = []; failures = []; formed = []; first_domain = None }
 
-pub has_first_forms : HasFirstForms script
-unfolding IsFirst IsFirstBlock AreFirst
-has_first_forms = All-from_recursion IsFirstBlock script.bodies ((((tt, tt), tt), tt), tt)
-
 pub has_built_forms : HasBuiltForms script
-has_built_forms = first_are_built script has_first_forms
+unfolding IsBuilt IsBuiltBlock AreBuilt
+has_built_forms = All-from_recursion IsBuiltBlock script.bodies ((((tt, tt), tt), tt), tt)
 
 -- ## Its first move
 

@@ -5,7 +5,6 @@ use Rattle.std.specs.Option.{unwrap_or}
 use Rattle.eio_value.specs.declared.raised.Outcome.{Outcome}
 use Rattle.spec_parts.specs.Contexts.{context_at, is_live}
 use Rattle.spec_parts.specs.Switches.{switch_at}
-use Rattle.law_script.specs.Scripts.FirstForms.{HasFirstForms}
 use Rattle.spec_script.specs.Opening.{opening_texts}
 use Rattle.spec_script.specs.Scripts.{Script}
 use Rattle.spec_script.specs.Syntax.{Block, Begins, Done}
@@ -45,12 +44,6 @@ OpensSound = (script : Script) (body : ℕ) → HasBuiltForms script → body < 
 abbrev pub KeepsSound : Type 0
 KeepsSound = (script : Script) (l k : DomainState) (x : Noted) → HasBuiltForms script → IsSoundState l → x.label ≡ Inner → DomainMoves script l x k
     → k.halted ≡ false → IsSoundState k
-
--- ## Forms
-
--- a script of the first forms alone has the forms that are built
-abbrev pub FirstAreBuilt : Type 0
-FirstAreBuilt = (script : Script) → HasFirstForms script → HasBuiltForms script
 
 -- ## What follows
 

@@ -7,6 +7,7 @@ use Rattle.spec_script.specs.Declarations.{workers, declaration, declarations_be
 use Rattle.spec_script.specs.declared.Feature.TheVariants as feature
 use Rattle.spec_script.specs.Entries.{entries}
 use Rattle.spec_script.specs.Expressions.{item, traced}
+use Rattle.spec_script.specs.Features.{Built}
 use Rattle.spec_script.specs.FlowSteps.{steps}
 use Rattle.spec_script.specs.Forms.{form_of}
 use Rattle.spec_script.specs.Generator.{generated}
@@ -20,7 +21,6 @@ use Rattle.spec_script.specs.Statements.{statements}
 use Rattle.spec_script.specs.Syntax.{Yield, Begins, Done, Then}
 use Rattle.spec_script.specs.Trees.{Tree, Word, Number, Branch, Nil, And}
 use Rattle.law_script.specs.Trees.Places.{bare}
-use Rattle.law_script.specs.Scripts.FirstForms.{first_built, HasFirstForms}
 use Rattle.law_script.specs.Scripts.Generated.{IsScript}
 use Rattle.law_script.specs.Scripts.Meanings.{ReadAlike}
 use Rattle.law_script.specs.Scripts.Numbers.{HasFittingNumbers}
@@ -29,7 +29,6 @@ use Rattle.law_script.specs.Scripts.Sharing.{IsShared}
 use Rattle.law_script.specs.Scripts.Soundness.{IsSound}
 use Rattle.law_script.proofs.Scripts.BareScripts.{places_dont_count}
 use Rattle.law_script.proofs.Scripts.Commands.{mocked_is_sound, domains_are_shared}
-use Rattle.law_script.proofs.Scripts.FirstScripts.{first_scripts}
 use Rattle.law_script.proofs.Scripts.Generated.{generated_is_read}
 use Rattle.law_script.proofs.Scripts.Printing.{print_is_kept, print_stands}
 use Rattle.law_script.proofs.Scripts.Scripts.{input_is_sound, script_is_sound}
@@ -81,24 +80,25 @@ so_is_the_input = input_is_sound bytes script it_is_an_input
 it_is_shared : IsShared script
 it_is_shared = shared_scripts tree script it_stands_for_it refl
 
-it_has_first_forms : HasFirstForms script
-it_has_first_forms = first_scripts tree script it_stands_for_it refl
-
 -- ## Commands
 
-mock_runs_it : mocked_script first_built bytes ≡ Ok script
+-- the one form that it has is built
+abbrev built : Built
+built = feature.FirstForms ∷ []
+
+mock_runs_it : mocked_script built bytes ≡ Ok script
 unfolding past_gap text_items run_tree trees_by tree_at reading input_tree bring used directory_of form_of item traced captured_behind statements steps entries workers declaration declarations_behind domains script_of input_script mocked_script
 mock_runs_it = refl
 
 what_mock_runs : IsSound script × (length script.bodies ≡ 1)
-what_mock_runs = mocked_is_sound first_built bytes script mock_runs_it
+what_mock_runs = mocked_is_sound built bytes script mock_runs_it
 
-domains_run_it : shared_script first_built bytes ≡ Ok script
+domains_run_it : shared_script built bytes ≡ Ok script
 unfolding past_gap text_items run_tree trees_by tree_at reading input_tree bring used directory_of form_of item traced captured_behind statements steps entries workers declaration declarations_behind domains script_of input_script shared_script
 domains_run_it = refl
 
 what_domains_run : IsSound script × IsShared script
-what_domains_run = domains_are_shared first_built bytes script domains_run_it
+what_domains_run = domains_are_shared built bytes script domains_run_it
 
 -- ## Places and spellings
 

@@ -1,5 +1,5 @@
 use Rattle.law_domain.proofs.Forms.FeatureScripts.{built_features}
-use Rattle.law_domain.proofs.Forms.NextLists.{mocked_features}
+use Rattle.law_domain.proofs.Forms.GroupForms.{mocked_features}
 use Rattle.law_domain.proofs.form_laws.built_features_alone.Goals as goal
 
 pub returns-clause-trees : goal.returns-clause-trees

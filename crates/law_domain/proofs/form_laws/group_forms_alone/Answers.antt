@@ -1,4 +1,4 @@
-use Rattle.law_domain.proofs.Forms.NextLists.{group_forms, mocked_group_forms}
+use Rattle.law_domain.proofs.Forms.GroupForms.{group_forms, mocked_group_forms}
 use Rattle.law_domain.proofs.form_laws.group_forms_alone.Goals as goal
 
 pub returns-clause-trees : goal.returns-clause-trees
