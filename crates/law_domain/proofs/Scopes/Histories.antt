@@ -27,7 +27,7 @@ use Rattle.spec_machine.specs.Steps as steps
 use Rattle.spec_machine.specs.Steps.{Step}
 use Rattle.law_domain.specs.Scopes.Finished.{WaitsOnObject, ResumesWaiting, message_in}
 use Rattle.law_domain.proofs.Scopes.Counts.{times, Compared, Same, Other, compared, one, one_self}
-use Rattle.law_domain.proofs.Scopes.Scopes.{View, view, standing_at, Sound, Scope, OnSwitch, IsOver}
+use Rattle.law_domain.proofs.Scopes.Scopes.{View, view, standing_at, Sound, Tracked, OnSwitch, IsOver}
 use Rattle.law_domain.proofs.Scopes.Standings.{let_go}
 use Rattle.law_domain.proofs.Scopes.Calls.{Ends, after_does}
 use Rattle.law_domain.proofs.Scopes.Moves.{hand_of, view_of, forgotten, Prepares, prepares, job_leads, own_ends, called_ends}
@@ -353,7 +353,7 @@ pub legal_move : (script : Script) (s t : State (DomainMoves script)) (x : Noted
 legal_move script s t x all it = subst (λ (next : Locals). MovesOn script s.locals x next t.shared) (sym it.locals) (one_move script s.locals s.shared x it.next t.shared all it.steps it.shared)
 
 -- a scope of a domain stays over
-over_on : (script : Script) (n : Scope) (d : ℕ) (s t : State (DomainMoves script)) (x : Noted) → AllSound s.locals s.shared → MovesOn script s.locals x t.locals t.shared → IsOver (s.locals d).switches (s.locals d).groups n
+over_on : (script : Script) (n : Tracked) (d : ℕ) (s t : State (DomainMoves script)) (x : Noted) → AllSound s.locals s.shared → MovesOn script s.locals x t.locals t.shared → IsOver (s.locals d).switches (s.locals d).groups n
     → IsOver (t.locals d).switches (t.locals d).groups n
 over_on script n d s t x all it over = by (domain_of x == d) refl
   where
@@ -364,7 +364,7 @@ over_on script n d s t x all it over = by (domain_of x == d) refl
         ((moved script (s.locals (domain_of x)) x (t.locals (domain_of x)) it.moves (all.sound (domain_of x))).finished n (subst (λ (e : ℕ). IsOver (s.locals e).switches (s.locals e).groups n) (sym same) over))
     by false is = subst (λ (m : DomainState). IsOver m.switches m.groups n) (sym (it.others d (λ same. both_ways (domain_of x == d) is (eq-eqb (domain_of x) d same)))) over
 
-pub over_stays : (script : Script) (n : Scope) (d : ℕ) (last : ℕ × ℕ) (s : State (DomainMoves script)) (lines : List Noted) (u : State (DomainMoves script)) → AllSound s.locals s.shared → Legal (DomainMoves script) last s lines u
+pub over_stays : (script : Script) (n : Tracked) (d : ℕ) (last : ℕ × ℕ) (s : State (DomainMoves script)) (lines : List Noted) (u : State (DomainMoves script)) → AllSound s.locals s.shared → Legal (DomainMoves script) last s lines u
     → IsOver (s.locals d).switches (s.locals d).groups n → Sound [] (view (u.locals d)) × IsOver (u.locals d).switches (u.locals d).groups n
 over_stays script n d last s [] u all same over = subst (λ (t : State (DomainMoves script)). Sound [] (view (t.locals d)) × IsOver (t.locals d).switches (t.locals d).groups n) same (all.sound d, over)
 over_stays script n d last s (x ∷ lines) u all it over =

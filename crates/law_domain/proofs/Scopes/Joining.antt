@@ -9,7 +9,7 @@ use Rattle.spec_fiber.specs.Asks.{Ask}
 use Rattle.spec_fiber.specs.Replies.{passed}
 use Rattle.spec_fiber.specs.Settling.{Settled, thrown}
 use Rattle.spec_fiber.specs.Work.{Work, Leave, Close, Closing, Join, Carry}
-use Rattle.law_domain.specs.Sound.Scopes.{Scope, InGroup, called_scope, scopes_in}
+use Rattle.law_domain.specs.Sound.Scopes.{Entered, InGroup, called_scope, scopes_in}
 use Rattle.law_domain.proofs.Sound.ScopesSettle.{scopes_settle}
 use Rattle.law_domain.proofs.Scopes.Counts.{one, times}
 use Rattle.law_domain.proofs.Scopes.Gathered.{joining, owed_call, JoinsMade}
@@ -25,13 +25,13 @@ module _ (n : ℕ) where
   Settles bound it = (joining n it.behind + times n (owed_call it.call) ≤ bound) × JoinsMade 0 it.call
 
   -- how often the caller's own branch of the group stands among these scopes
-  abbrev own_in : List Scope → ℕ
+  abbrev own_in : List Entered → ℕ
   own_in [] = 0
   own_in (InGroup group true ∷ scopes) = one n group + own_in scopes
   own_in (scope ∷ scopes) = own_in scopes
 
   -- of each of their groups the own branch still runs
-  abbrev Own : List Scope → Type 0
+  abbrev Own : List Entered → Type 0
   Own [] = Unit {0}
   Own (InGroup group false ∷ scopes) = ⊥
   Own (scope ∷ scopes) = Own scopes

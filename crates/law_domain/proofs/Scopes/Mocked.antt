@@ -43,7 +43,7 @@ use Rattle.spec_parts.specs.Executors as executors
 use Rattle.spec_parts.specs.Row.{Queued, Side, Handed, found}
 use Rattle.spec_parts.specs.Row as rows
 use Rattle.law_domain.proofs.Scopes.Counts.{one}
-use Rattle.law_domain.proofs.Scopes.Scopes.{View, view, standing_at, is_over, IsReady, Sound, IsFinished, Scope, OnSwitch, IsOver, Goes, set_same, set_other, within}
+use Rattle.law_domain.proofs.Scopes.Scopes.{View, view, standing_at, is_over, IsReady, Sound, IsFinished, Tracked, OnSwitch, IsOver, Goes, set_same, set_other, within}
 use Rattle.law_domain.proofs.Scopes.Standings.{let_go, Loose}
 use Rattle.law_domain.proofs.Scopes.Calls.{closed_in, Ends, after_does}
 use Rattle.law_domain.proofs.Scopes.Moves.{hand_of, view_of, forgotten, Prepares, prepares, Keeps, kept, received_keeps, owing_wait_same, job_leads, own_ends, called_ends, struck_keeps, mocked_ends}
@@ -387,7 +387,7 @@ module _ (script : Script) (l : DomainState) (s : SharedState) (fine : Fine l s)
 -- what is known after a move of a mocked run
 pub record Going (l : DomainState) (line : Line) (next : Mock) : Type 0 where
   pub fine : Fine next.local next.shared
-  pub finished : (n : Scope) → IsOver l.switches l.groups n → IsOver next.local.switches next.local.groups n
+  pub finished : (n : Tracked) → IsOver l.switches l.groups n → IsOver next.local.switches next.local.groups n
   pub closes : (n : ℕ) → closed_in line.did line.reply ≡ Some n → IsFinished next.local.switches n
 
 module _ (script : Script) (m : Mock) (fine : Fine m.local m.shared) where
@@ -435,7 +435,7 @@ move_goes script m moved fine is = by m.local.halted is
 -- what holds of the last state of at most n moves
 record Lasts (m last : Mock) : Type 0 where
   fine : Fine last.local last.shared
-  finished : (n : Scope) → IsOver m.local.switches m.local.groups n → IsOver last.local.switches last.local.groups n
+  finished : (n : Tracked) → IsOver m.local.switches m.local.groups n → IsOver last.local.switches last.local.groups n
 
 abbrev pub moves_from : Script → (n : ℕ) → Option Moved → List Moved
 moves_from script n first = elim first as (λ _. List Moved) [ None ↦ [] | Some moved ↦ moved ∷ moves script n moved.next ]
@@ -456,7 +456,7 @@ pub last_fine : (script : Script) (n : ℕ) (m : Mock) → Fine m.local m.shared
 last_fine script n m fine = (lasts script n m fine).fine
 
 -- after n moves, one after which a scope is over, and any number of others
-pub later_over : (script : Script) (n later : ℕ) (scope : Scope) (m : Mock) → Fine m.local m.shared → (moved : Moved) → let before : Mock = last_after m (moves script n m) in move script before ≡ Some moved
+pub later_over : (script : Script) (n later : ℕ) (scope : Tracked) (m : Mock) → Fine m.local m.shared → (moved : Moved) → let before : Mock = last_after m (moves script n m) in move script before ≡ Some moved
     → (Fine before.local before.shared → IsOver moved.next.local.switches moved.next.local.groups scope)
     → let last : Mock = last_after m (moves script (n + 1 + later) m) in Sound [] (view last.local) × IsOver last.local.switches last.local.groups scope
 unfolding moves

@@ -54,7 +54,7 @@ use Rattle.spec_machine.specs.Shared.{Asked}
 use Rattle.spec_machine.specs.Steps as steps
 use Rattle.spec_machine.specs.Steps.{Step}
 use Rattle.law_domain.specs.Scopes.Finished.{WaitsOnObject, ResumesWaiting}
-use Rattle.law_domain.proofs.Scopes.Scopes.{Closes, ClosesCall, JoinsCall, ClosesNext, ClosesStanding, View, view, owing_view, Sound, IsFinished, OnSwitch, Scope, IsOver, Goes, Leads, stays, both}
+use Rattle.law_domain.proofs.Scopes.Scopes.{Closes, ClosesCall, JoinsCall, ClosesNext, ClosesStanding, View, view, owing_view, Sound, IsFinished, OnSwitch, Tracked, IsOver, Goes, Leads, stays, both}
 use Rattle.law_domain.proofs.Scopes.Counts.{times}
 use Rattle.law_domain.proofs.Scopes.Gathered.{joining, owed_call, JoinsMade, uncredited}
 use Rattle.law_domain.proofs.Scopes.Joining.{made_more, passed_joins, thrown_joins}
@@ -325,7 +325,7 @@ job_leads script job number l h = by (contexts.root l.contexts).number
 -- what is left once a move has ended
 pub record Keeps (v : View) (step : Step) : Type 0 where
   pub sound : Sound [] (view step.state)
-  pub finished : (n : Scope) → IsOver v.switches v.groups n → IsOver step.state.switches step.state.groups n
+  pub finished : (n : Tracked) → IsOver v.switches v.groups n → IsOver step.state.switches step.state.groups n
   pub closes : (n : ℕ) → closed_in step.did step.reply ≡ Some n → IsFinished step.state.switches n
 
 pub kept : (v : View) (step : Step) → Ends v step → Keeps v step

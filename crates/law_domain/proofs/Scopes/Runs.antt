@@ -24,7 +24,7 @@ use Rattle.spec_machine.specs.Runs.{Noted, Fits, LocalRun}
 use Rattle.spec_machine.specs.Steps.{Step}
 use Rattle.law_domain.specs.Scopes.Finished.{IsResult, Answers, NoneIsLeft, WaitsOnObject, ResumesWaiting, message_in, Moves, LeavesNothing}
 use Rattle.law_domain.proofs.Scopes.Counts.{times, Compared, Same, Other, compared, one}
-use Rattle.law_domain.proofs.Scopes.Scopes.{Closes, ClosesStanding, IsReady, View, view, attached_to, is_over, Sound, IsFinished, Scope, OnSwitch, IsOver, Goes}
+use Rattle.law_domain.proofs.Scopes.Scopes.{Closes, ClosesStanding, IsReady, View, view, attached_to, is_over, Sound, IsFinished, Tracked, OnSwitch, IsOver, Goes}
 use Rattle.law_domain.proofs.Scopes.Calls.{closed_in, Ends, after_does}
 use Rattle.law_domain.proofs.Scopes.Moves.{hand_of, view_of, Prepares, prepares, Keeps, kept, StrikesWaiting, DoingStrikes, received_keeps, takes_keeps, own_ends, called_ends, struck_keeps, mocked_ends}
 
@@ -83,7 +83,7 @@ step_keeps script l (Took it) h fits waits = takes_keeps script it l waits h
 -- what is known of a domain after a move
 pub record Moved (l : DomainState) (line : Line) (k : DomainState) : Type 0 where
   pub sound : Sound [] (view k)
-  pub finished : (n : Scope) → IsOver l.switches l.groups n → IsOver k.switches k.groups n
+  pub finished : (n : Tracked) → IsOver l.switches l.groups n → IsOver k.switches k.groups n
   pub closes : (n : ℕ) → closed_in line.did line.reply ≡ Some n → IsFinished k.switches n
 
 pub moved : (script : Script) (l : DomainState) (x : Noted) (k : DomainState) → Moves script l x k → Sound [] (view l) → Moved l x.line k
@@ -175,7 +175,7 @@ first_sound script d = by (slice_get script.bodies d)
 
 -- ## Runs
 
-pub run_keeps : (script : Script) (xs : List Noted) (l k : DomainState) → LocalRun (Moves script) l xs k → Sound [] (view l) → Sound [] (view k) × ((n : Scope) → IsOver l.switches l.groups n → IsOver k.switches k.groups n)
+pub run_keeps : (script : Script) (xs : List Noted) (l k : DomainState) → LocalRun (Moves script) l xs k → Sound [] (view l) → Sound [] (view k) × ((n : Tracked) → IsOver l.switches l.groups n → IsOver k.switches k.groups n)
 run_keeps script [] l k same h = (subst (λ (m : DomainState). Sound [] (view m)) same h, λ n it. subst (λ (m : DomainState). IsOver m.switches m.groups n) same it)
 run_keeps script (x ∷ xs) l k it h =
     let first : Moved l x.line it.0 = moved script l x it.0 it.1 h in

@@ -124,13 +124,13 @@ pub record IsFinished (switches : List Switch) (n : ℕ) : Type 0 where
   pub finished : (switch_at switches n).finished ≡ true
 
 -- a switch or a group; or the number of a switch that was opened
-pub data Scope : Type 0 where
-  OnSwitch : (switch : ℕ) → Scope
-  OnGroup : (group : ℕ) → Scope
-  IsOpened : (switch : ℕ) → Scope
+pub data Tracked : Type 0 where
+  OnSwitch : (switch : ℕ) → Tracked
+  OnGroup : (group : ℕ) → Tracked
+  IsOpened : (switch : ℕ) → Tracked
 
 -- a scope that is over stays so
-abbrev pub IsOver : List Switch → List Group → Scope → Type 0
+abbrev pub IsOver : List Switch → List Group → Tracked → Type 0
 IsOver switches groups (OnSwitch n) = IsFinished switches n
 IsOver switches groups (OnGroup n) = IsJoined groups n
 IsOver switches groups (IsOpened n) = n < length switches
@@ -139,7 +139,7 @@ IsOver switches groups (IsOpened n) = n < length switches
 pub record Goes (v : View) (next : List ℕ) (w : View) : Type 0 where
   pub sound : Sound next w
   pub waits : (x : ℕ) (who : Waiter) → standing_at v x ≡ Parked (OnObject who) → standing_at w x ≡ Parked (OnObject who)
-  pub finished : (n : Scope) → IsOver v.switches v.groups n → IsOver w.switches w.groups n
+  pub finished : (n : Tracked) → IsOver v.switches v.groups n → IsOver w.switches w.groups n
   pub made : length v.switches ≤ length w.switches
   pub gathers : length v.groups ≤ length w.groups
 

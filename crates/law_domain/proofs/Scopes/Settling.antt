@@ -8,7 +8,7 @@ use Rattle.spec_fiber.specs.Asks.{Ask}
 use Rattle.spec_fiber.specs.Replies.{passed}
 use Rattle.spec_fiber.specs.Settling.{Settled, thrown}
 use Rattle.spec_fiber.specs.Work.{Work, Leave, Close, Closing, Join, Carry}
-use Rattle.law_domain.specs.Sound.Scopes.{Scope, InSwitch, called_scope, scopes_in}
+use Rattle.law_domain.specs.Sound.Scopes.{Entered, InSwitch, called_scope, scopes_in}
 use Rattle.law_domain.proofs.Sound.ScopesSettle.{scopes_settle}
 use Rattle.law_domain.proofs.Scopes.Scopes.{Closes, ClosesCall}
 
@@ -18,7 +18,7 @@ Settles bound it = ClosesCall bound it.call × Closes bound it.behind
 
 module _ (k : ℕ) where
   -- the switches among these scopes are below the bound
-  abbrev Below : List Scope → Type 0
+  abbrev Below : List Entered → Type 0
   Below [] = Unit {0}
   Below (InSwitch switch ∷ scopes) = (switch < k) × Below scopes
   Below (scope ∷ scopes) = Below scopes

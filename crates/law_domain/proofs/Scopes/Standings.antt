@@ -13,7 +13,7 @@ use Rattle.spec_parts.specs.Timers.{Timer}
 use Rattle.spec_machine.specs.Domain.{OfSwitch, Next, Wait, OnObject, Asleep, Resting, Standing, Ready, Parked, Ended, Fiber, fiber_at, never_made}
 use Rattle.law_domain.proofs.Scopes.Counts.{times, times_append, Compared, Same, Other, compared, one, one_self}
 use Rattle.law_domain.proofs.Scopes.Gathered.{member, live_as, live_in, joining, lives, owns, live_most, live_same, shifted, set_gathered, owed_by, ended_gathered, Credited, made_gathered, IsJoined}
-use Rattle.law_domain.proofs.Scopes.Scopes.{Closes, closes_more, standing_more, ClosesNext, ClosesWait, ClosesStanding, View, standing_at, sleepers, attached_to, is_over, IsReady, IsEmptied, Sound, Scope, OnSwitch, OnGroup, IsOpened, IsOver, Goes, Leads, stays, both, SetAt, Here, There, set_at, set_same, set_other, set_length, set_keeps, AddedAt, Last, Before, added_at, added_last, past, within}
+use Rattle.law_domain.proofs.Scopes.Scopes.{Closes, closes_more, standing_more, ClosesNext, ClosesWait, ClosesStanding, View, standing_at, sleepers, attached_to, is_over, IsReady, IsEmptied, Sound, Tracked, OnSwitch, OnGroup, IsOpened, IsOver, Goes, Leads, stays, both, SetAt, Here, There, set_at, set_same, set_other, set_length, set_keeps, AddedAt, Last, Before, added_at, added_last, past, within}
 
 -- ## Words
 
@@ -565,7 +565,7 @@ makes f hand next v switches debts all ready work standing size emptied finished
   gathers = omega arith;
 }
   where
-    over_by : (n : Scope) → IsOver v.switches v.groups n → IsOver switches v.groups n
+    over_by : (n : Tracked) → IsOver v.switches v.groups n → IsOver switches v.groups n
     over_by (OnSwitch n) it = record { opened = omega (arith, it.opened, size); finished = finished n it.finished }
     over_by (OnGroup n) it = it
     over_by (IsOpened n) it = omega (arith, it, size)
@@ -650,7 +650,7 @@ reswitched switches hand v size emptied finished attached h = record {
   gathers = omega arith;
 }
   where
-    over_by : (n : Scope) → IsOver v.switches v.groups n → IsOver switches v.groups n
+    over_by : (n : Tracked) → IsOver v.switches v.groups n → IsOver switches v.groups n
     over_by (OnSwitch n) it = record { opened = omega (arith, it.opened, size); finished = finished n it.opened it.finished }
     over_by (OnGroup n) it = it
     over_by (IsOpened n) it = omega (arith, it, size)
@@ -755,7 +755,7 @@ regroups n group hand v debts fewer paid less h = record {
         let here : (group_at v.groups n).left ≡ 0 = subst (λ (k : ℕ). (group_at v.groups k).left ≡ 0) at over in
         omega (arith, same, here, less)
 
-    over_by : (m : Scope) → IsOver v.switches v.groups m → IsOver v.switches (slice_set v.groups n group) m
+    over_by : (m : Tracked) → IsOver v.switches v.groups m → IsOver v.switches (slice_set v.groups n group) m
     over_by (OnSwitch m) it = it
     over_by (IsOpened m) it = it
     over_by (OnGroup m) it = record { gathered = omega (arith, it.gathered, size); over = left_by m it.over (set_at never_gathered v.groups n m group) }
@@ -800,7 +800,7 @@ gathers group hand v debts fewer h = record {
     left_by m it (Last same is) = absurd (omega (arith, same, it.gathered))
     left_by m it (Before is) = ap (λ (it : Group). it.left) is ∙ it.over
 
-    over_by : (m : Scope) → IsOver v.switches v.groups m → IsOver v.switches (v.groups ++ group ∷ []) m
+    over_by : (m : Tracked) → IsOver v.switches v.groups m → IsOver v.switches (v.groups ++ group ∷ []) m
     over_by (OnSwitch m) it = it
     over_by (IsOpened m) it = it
     over_by (OnGroup m) it = record { gathered = omega (arith, it.gathered, size); over = left_by m it (added_at never_gathered v.groups m group) }

@@ -12,7 +12,7 @@ use Rattle.spec_fiber.specs.Settling.{Settled, thrown}
 use Rattle.spec_fiber.specs.Work as work
 use Rattle.spec_fiber.specs.Work.{Work, Carry}
 use Rattle.spec_machine.specs.Domain.{CallsAgain, ForOthers, Standing, Ready, Parked, Fiber}
-use Rattle.law_domain.specs.Sound.Scopes.{Scope, InContext, InSwitch, InGroup, called_scope, scopes_in}
+use Rattle.law_domain.specs.Sound.Scopes.{Entered, InContext, InSwitch, InGroup, called_scope, scopes_in}
 use Rattle.law_domain.proofs.Sound.ScopesSettle.{scopes_settle}
 use Rattle.law_domain.proofs.Scopes.Counts.{one}
 
@@ -48,7 +48,7 @@ module _ (n c : ℕ) where
     Goes_on : closes it.call ≡ 0 → closing it.behind ≡ 0 → Settles it
 
   -- how often the switch stands among these scopes, before the context
-  abbrev before : List Scope → ℕ
+  abbrev before : List Entered → ℕ
   before [] = 0
   before (InContext context ∷ scopes) = elim (context == c) [ true ↦ 0 | false ↦ before scopes ]
   before (InSwitch switch ∷ scopes) = one n switch + before scopes

@@ -24,7 +24,7 @@ use Rattle.spec_machine.specs.Moves.{own_call}
 use Rattle.spec_machine.specs.Steps.{Step, counted, does, raises, raises_cancelled, goes_off, waits, halts, in_new, cancels}
 use Rattle.spec_machine.specs.SwitchMoves.{opens}
 use Rattle.law_domain.specs.Sound.BuiltForms.{HasBuiltForms, IsBuiltBlock, IsBuiltCall}
-use Rattle.law_domain.specs.Sound.Scopes.{Scope, InContext, InSwitch, called_scope, scopes_in}
+use Rattle.law_domain.specs.Sound.Scopes.{Entered, InContext, InSwitch, called_scope, scopes_in}
 use Rattle.law_domain.specs.Sound.SoundStates.{IsSoundPosition, IsSoundState}
 use Rattle.law_domain.proofs.Sound.BuiltSettle.{items_built}
 use Rattle.law_domain.proofs.Sound.Changes.{OnlyAt, set_once, set_again}
@@ -40,12 +40,12 @@ IsSoundUnless k = k.halted ≡ false → IsSoundState k
 
 -- a fiber's call keeps soundness, from the midst of its move on
 abbrev pub CallKept : Ask → Type 0
-CallKept call = (script : Script) → HasBuiltForms script → (g : ℕ) (held : ℕ → List Scope) (l : DomainState) → IsMid g held l.lines l
+CallKept call = (script : Script) → HasBuiltForms script → (g : ℕ) (held : ℕ → List Entered) (l : DomainState) → IsMid g held l.lines l
     → held g ≡ called_scope call ++ scopes_in (fiber_at l.fibers g).work → IsBuiltCall call → (stamp : ℕ) → IsSoundUnless (one_more_line (own_call script call g l).state stamp)
 
 -- ## How it goes on
 
-module _ (g : ℕ) (held : ℕ → List Scope) (l : DomainState) (mid : IsMid g held l.lines l) (sees : held g ≡ scopes_in (fiber_at l.fibers g).work) (stamp : ℕ) where
+module _ (g : ℕ) (held : ℕ → List Entered) (l : DomainState) (mid : IsMid g held l.lines l) (sees : held g ≡ scopes_in (fiber_at l.fibers g).work) (stamp : ℕ) where
   -- with what its call came to
   pub goes_on : (result : Outcome) → IsSoundUnless (one_more_line (to_head (GoesOn result) g l) stamp)
   goes_on result runs = ends_ahead g held l.lines l mid stamp (omega arith) (GoesOn result) tt sees
@@ -109,9 +109,9 @@ cancel_kept c text script forms g held l mid sees built stamp = by_live (is_live
 
 -- ## Into a block
 
-module _ (g : ℕ) (held : ℕ → List Scope) (l : DomainState) (mid : IsMid g held l.lines l) (stamp : ℕ) where
+module _ (g : ℕ) (held : ℕ → List Entered) (l : DomainState) (mid : IsMid g held l.lines l) (stamp : ℕ) where
   -- before a block, from where it goes on
-  pub goes_in : (scope : Scope) (position : Position) (k : DomainState) → EntersOne g scope position l k → k.lines ≡ l.lines
+  pub goes_in : (scope : Entered) (position : Position) (k : DomainState) → EntersOne g scope position l k → k.lines ≡ l.lines
       → scopes_in position.work ≡ scope ∷ held g → IsSoundUnless (one_more_line (to_head (GoesOn (outcome.Ok value.Unit)) g k) stamp)
   goes_in scope position k one lines places runs =
       ends_ahead g (with_held g (scope ∷ held g) held) (l.lines + 1) k (mid_enters g held l.lines l k scope position mid one) stamp (omega (arith, lines))
@@ -178,7 +178,7 @@ module _ (g : ℕ) (held : ℕ → List Scope) (l : DomainState) (mid : IsMid g 
   by_room protected next goes true = halting g l stamp
   by_room protected next goes false = goes
 
-module _ (g : ℕ) (held : ℕ → List Scope) (l : DomainState) (mid : IsMid g held l.lines l) (sees : held g ≡ scopes_in (fiber_at l.fibers g).work) (stamp : ℕ) where
+module _ (g : ℕ) (held : ℕ → List Entered) (l : DomainState) (mid : IsMid g held l.lines l) (sees : held g ≡ scopes_in (fiber_at l.fibers g).work) (stamp : ℕ) where
   caller_position : IsSoundPosition (length l.switches) (length l.contexts) (fiber_at l.fibers g).work (fiber_at l.fibers g).variables
   caller_position = (mid.sound.fibers g).position (mid_lives g held l.lines l mid)
 

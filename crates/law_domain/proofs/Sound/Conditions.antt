@@ -6,7 +6,7 @@ use Rattle.spec_fiber.specs.Asks as ask
 use Rattle.spec_fiber.specs.Asks.{Ask}
 use Rattle.spec_machine.specs.Domain.{Role, OfBody, OfSwitch, OfGroup, DomainState, fiber_at, has_ended}
 use Rattle.law_domain.specs.Sound.Conditions.{AtEnd, IsAlone, MayClose, MayLeave, MayJoin, EndsAs, IsMet, MovesMayCall, SwitchesAreSound}
-use Rattle.law_domain.specs.Sound.Scopes.{Scope, InContext, InSwitch, InGroup, Nests, ScopeAt, base_of, called_scope, context_in, is_end, scopes_in, scopes_of}
+use Rattle.law_domain.specs.Sound.Scopes.{Entered, InContext, InSwitch, InGroup, Nests, ScopeAt, base_of, called_scope, context_in, is_end, scopes_in, scopes_of}
 use Rattle.law_domain.specs.Sound.SoundStates.{IsBuiltRole, IsSoundState, attached_to}
 use Rattle.law_domain.proofs.Sound.Branches.{nobody_branches, some_branch}
 use Rattle.law_domain.proofs.Sound.Counting.{lives_below}
@@ -17,7 +17,7 @@ use Rattle.law_domain.proofs.Sound.Scoping.{context_no_group, context_no_switch,
 module _ (l : DomainState) (sound : IsSoundState l) (g : ℕ) (lives : has_ended (fiber_at l.fibers g) ≡ false) where
   -- ## Ends of scopes
 
-  at_end : (scope : Scope) (behind : List Scope) → scopes_of l g ≡ scope ∷ behind → AtEnd l g scope
+  at_end : (scope : Entered) (behind : List Entered) → scopes_of l g ≡ scope ∷ behind → AtEnd l g scope
   at_end scope behind sees = (
       let here : ScopeAt (scopes_of l) l scope g 0 = record { lives = lives; there = ap (λ xs. slice_get xs 0) sees } in
       record {
@@ -28,7 +28,7 @@ module _ (l : DomainState) (sound : IsSoundState l) (g : ℕ) (lives : has_ended
         runs_by : Nests l (base_of l (fiber_at l.fibers g).role) (scope ∷ behind) (fiber_at l.fibers g).context → context_in l scope ≡ (fiber_at l.fibers g).context
         runs_by nests = nests.0
 
-  alone_in : (scope : Scope) → ScopeAt (scopes_of l) l scope g 0 → ((n : ℕ) → scope ≡ InSwitch n → (daemon : Bool) → attached_to daemon (switch_at l.switches n) ≡ [])
+  alone_in : (scope : Entered) → ScopeAt (scopes_of l) l scope g 0 → ((n : ℕ) → scope ≡ InSwitch n → (daemon : Bool) → attached_to daemon (switch_at l.switches n) ≡ [])
       → ((n : ℕ) (own : Bool) (h : ℕ) → scope ≡ InGroup n own → (fiber_at l.fibers h).role ≡ OfGroup n → has_ended (fiber_at l.fibers h) ≡ false → ⊥)
       → IsAlone l g (context_in l scope)
   alone_in scope here nobody no_branch = record {
@@ -36,7 +36,7 @@ module _ (l : DomainState) (sound : IsSoundState l) (g : ℕ) (lives : has_ended
     idle = scope_runs (scopes_of l) l.lines l sound scope g here nobody no_branch;
   }
 
-  may_close : (n : ℕ) (behind : List Scope) → scopes_of l g ≡ InSwitch n ∷ behind → MayClose l g n
+  may_close : (n : ℕ) (behind : List Entered) → scopes_of l g ≡ InSwitch n ∷ behind → MayClose l g n
   may_close n behind sees = (
       let it = at_end (InSwitch n) behind sees in
       record {
@@ -49,7 +49,7 @@ module _ (l : DomainState) (sound : IsSoundState l) (g : ℕ) (lives : has_ended
             (λ m own h e role alive. switch_no_group n m own e);
       })
 
-  may_leave : (c : ℕ) (behind : List Scope) → scopes_of l g ≡ InContext c ∷ behind → MayLeave l g c
+  may_leave : (c : ℕ) (behind : List Entered) → scopes_of l g ≡ InContext c ∷ behind → MayLeave l g c
   may_leave c behind sees = (
       let it = at_end (InContext c) behind sees in
       record {
@@ -58,7 +58,7 @@ module _ (l : DomainState) (sound : IsSoundState l) (g : ℕ) (lives : has_ended
         alone = alone_in (InContext c) it.innermost (λ n e daemon. absurd (context_no_switch c n e)) (λ n own h e role alive. context_no_group c n own e);
       })
 
-  may_join : (n : ℕ) (own : Bool) (behind : List Scope) → scopes_of l g ≡ InGroup n own ∷ behind → MayJoin l g n own
+  may_join : (n : ℕ) (own : Bool) (behind : List Entered) → scopes_of l g ≡ InGroup n own ∷ behind → MayJoin l g n own
   may_join n own behind sees = (
       let it = at_end (InGroup n own) behind sees in
       let left = sound.scoped.left n own g 0 it.innermost in
@@ -107,7 +107,7 @@ module _ (l : DomainState) (sound : IsSoundState l) (g : ℕ) (lives : has_ended
 
   -- ## All calls
 
-  is_met : (call : Ask) (behind : List Scope) → scopes_of l g ≡ called_scope call ++ behind → (is_end_of : is_end call ≡ true → behind ≡ []) → IsMet l g call
+  is_met : (call : Ask) (behind : List Entered) → scopes_of l g ≡ called_scope call ++ behind → (is_end_of : is_end call ≡ true → behind ≡ []) → IsMet l g call
   is_met (ask.Leave c late it) behind sees bare = may_leave c behind sees
   is_met (ask.Close n came kept) behind sees bare = may_close n behind sees
   is_met (ask.Join n own) behind sees bare = may_join n (is_some own) behind sees

@@ -6,7 +6,7 @@ use Rattle.spec_parts.specs.Contexts.{context_at, is_live}
 use Rattle.spec_parts.specs.Groups.{Group, group_at}
 use Rattle.spec_parts.specs.Switches.{switch_at}
 use Rattle.spec_machine.specs.Domain.{Fiber, DomainState, never_made, fiber_at, has_ended, live_fibers}
-use Rattle.law_domain.specs.Sound.Scopes.{Scope, scopes, scopes_of}
+use Rattle.law_domain.specs.Sound.Scopes.{Entered, scopes, scopes_of}
 use Rattle.law_domain.specs.Sound.SoundStates.{IsBuiltStanding, IsCounted, IsScoped, IsSoundFiber, IsSoundWith, IsStrike, branches_of, is_of_group}
 use Rattle.law_domain.proofs.Sound.Attaching.{DetachesOne, detached_one}
 use Rattle.law_domain.proofs.Sound.Branches.{is_branch, is_none, role_of_group}
@@ -18,7 +18,7 @@ use Rattle.law_domain.proofs.Sound.Lists.{AreDistinct}
 use Rattle.law_domain.proofs.Sound.Midst.{IsMid, fiber_grows, mid_lives}
 use Rattle.law_domain.proofs.Sound.Staying.{StaysIn, IsNew, LivesOn, scopes_stay}
 
-pub record EndsOne (held : ℕ → List Scope) (g : ℕ) (fiber : Fiber) (l k : DomainState) : Type 0 where
+pub record EndsOne (held : ℕ → List Entered) (g : ℕ) (fiber : Fiber) (l k : DomainState) : Type 0 where
   pub none : held g ≡ []
   pub over : has_ended fiber ≡ true
   pub stand : IsBuiltStanding fiber.standing
@@ -49,7 +49,7 @@ same_lefts g fiber l k only over aside groups n = (
     count_same (is_branch n) refl k.fibers l.fibers (of_only g l.fibers k.fibers fiber only (λ h f. is_branch n f ≡ is_branch n (fiber_at l.fibers h)) (then ∙ sym before) (λ h other. refl)) in
     ap₂ (λ (gs : List Group) (count : ℕ). (group_at gs n).left + count) groups (sym same))
 
-module _ (g : ℕ) (held : ℕ → List Scope) (lines : ℕ) (fiber : Fiber) (l k : DomainState) (mid : IsMid g held lines l) (one : EndsOne held g fiber l k) where
+module _ (g : ℕ) (held : ℕ → List Entered) (lines : ℕ) (fiber : Fiber) (l k : DomainState) (mid : IsMid g held lines l) (one : EndsOne held g fiber l k) where
   -- what holds of the ended fiber and of all others holds of all
   of_each : (P : ℕ → Fiber → Type 0) → P g fiber → ((h : ℕ) → h ≢ g → P h (fiber_at l.fibers h)) → (h : ℕ) → P h (fiber_at k.fibers h)
   of_each = of_only g l.fibers k.fibers fiber one.fibers

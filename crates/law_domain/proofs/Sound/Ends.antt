@@ -14,7 +14,7 @@ use Rattle.spec_machine.specs.GroupMoves.{cancels_if}
 use Rattle.spec_machine.specs.EndMoves.{after_end, ends_context}
 use Rattle.spec_machine.specs.Moves.{own_call}
 use Rattle.spec_machine.specs.SwitchMoves.{given_up, with_switch_at, woken, woken_if}
-use Rattle.law_domain.specs.Sound.Scopes.{Scope, InGroup, Nests, ScopeAt, base_of}
+use Rattle.law_domain.specs.Sound.Scopes.{Entered, InGroup, Nests, ScopeAt, base_of}
 use Rattle.law_domain.specs.Sound.SoundStates.{IsBuiltRole, IsBuiltStanding, attached_to, branches_of, is_of_group}
 use Rattle.law_domain.proofs.Sound.Branches.{fewer_branches, is_none, is_one, same_branches_aside, some_branch}
 use Rattle.law_domain.proofs.Sound.ByNumber as numbers
@@ -100,7 +100,7 @@ is_of_switch role = elim role [ OfBody ↦ false | OfJob executor number ↦ fal
 
 -- ## The end
 
-module _ (g : ℕ) (held : ℕ → List Scope) (l : DomainState) (mid : IsMid g held l.lines l) (none : held g ≡ []) (result : Outcome) (stamp : ℕ) where
+module _ (g : ℕ) (held : ℕ → List Entered) (l : DomainState) (mid : IsMid g held l.lines l) (none : held g ≡ []) (result : Outcome) (stamp : ℕ) where
   abbrev over_fiber : Fiber
   over_fiber = record (fiber_at l.fibers g) { work = []; variables = []; standing = Ended result }
 
@@ -369,7 +369,7 @@ module _ (g : ℕ) (held : ℕ → List Scope) (l : DomainState) (mid : IsMid g 
   by_role role is may = absurd may
 
 -- the end of a fiber keeps soundness
-pub end_kept : (script : Script) (g : ℕ) (held : ℕ → List Scope) (l : DomainState) → IsMid g held l.lines l → held g ≡ [] → (result : Outcome) (stamp : ℕ)
+pub end_kept : (script : Script) (g : ℕ) (held : ℕ → List Entered) (l : DomainState) → IsMid g held l.lines l → held g ≡ [] → (result : Outcome) (stamp : ℕ)
     → IsSoundUnless (one_more_line (own_call script (ask.End result) g l).state stamp)
 unfolding own_call
 end_kept script g held l mid none result stamp =

@@ -9,7 +9,7 @@ use Rattle.spec_parts.specs.Groups.{group_at}
 use Rattle.spec_parts.specs.Switches.{Switch, switch_at, opened, never_opened}
 use Rattle.spec_fiber.specs.Replies.{Position}
 use Rattle.spec_machine.specs.Domain.{Fiber, DomainState, fiber_at, has_ended, live_fibers}
-use Rattle.law_domain.specs.Sound.Scopes.{Scope, InContext, InSwitch, InGroup, IsUnfinished, context_in, scopes}
+use Rattle.law_domain.specs.Sound.Scopes.{Entered, InContext, InSwitch, InGroup, IsUnfinished, context_in, scopes}
 use Rattle.law_domain.specs.Sound.SoundStates.{IsCounted, IsSoundFiber, IsSoundPosition, IsSoundWith, IsStrike, attached_to}
 use Rattle.law_domain.proofs.Sound.Attaching.{attached_same}
 use Rattle.law_domain.proofs.Sound.ByNumber as numbers
@@ -22,7 +22,7 @@ use Rattle.law_domain.proofs.Sound.Midst.{IsMid, fiber_grows, mid_lives}
 use Rattle.law_domain.proofs.Sound.Scoping.{with_held, held_here, held_elsewhere, context_no_group, switch_no_group}
 
 -- what is there once it stands before the block
-pub record EntersOne (g : ℕ) (scope : Scope) (position : Position) (l k : DomainState) : Type 0 where
+pub record EntersOne (g : ℕ) (scope : Entered) (position : Position) (l k : DomainState) : Type 0 where
   pub fibers : OnlyAt g l.fibers k.fibers (record (fiber_at l.fibers g) { context = length l.contexts; work = position.work; variables = position.variables })
   pub contexts : (protected : Bool) × (k.contexts ≡ l.contexts ++ new_context (Some (fiber_at l.fibers g).context) protected ∷ [])
   pub switches : ((k.switches ≡ l.switches) × (scope ≡ InContext (length l.contexts)))
@@ -33,9 +33,9 @@ pub record EntersOne (g : ℕ) (scope : Scope) (position : Position) (l k : Doma
   pub timers : k.timers ≡ l.timers
   pub sound : IsSoundPosition (length k.switches) (length k.contexts) position.work position.variables
 
-module _ (g : ℕ) (held : ℕ → List Scope) (lines : ℕ) (l k : DomainState) (scope : Scope) (position : Position)
+module _ (g : ℕ) (held : ℕ → List Entered) (lines : ℕ) (l k : DomainState) (scope : Entered) (position : Position)
     (mid : IsMid g held lines l) (one : EntersOne g scope position l k) where
-  abbrev new : ℕ → List Scope
+  abbrev new : ℕ → List Entered
   new = with_held g (scope ∷ held g) held
 
   abbrev entering : Fiber

@@ -7,7 +7,7 @@ use Rattle.std.proofs.lemmas.Option.{none-some, same_Some}
 use Rattle.spec_parts.specs.Contexts.{context_at, is_live}
 use Rattle.spec_parts.specs.Switches.{switch_at}
 use Rattle.spec_machine.specs.Domain.{Role, OfBody, OfSwitch, OfGroup, DomainState, never_made, fiber_at, has_ended, live_fibers, most_fibers}
-use Rattle.law_domain.specs.Sound.Scopes.{Scope, InSwitch, InGroup, Nests, ScopeAt, base_of, context_in}
+use Rattle.law_domain.specs.Sound.Scopes.{Entered, InSwitch, InGroup, Nests, ScopeAt, base_of, context_in}
 use Rattle.law_domain.specs.Sound.SoundStates.{IsBuiltRole, IsSoundWith, attached_to}
 use Rattle.law_domain.proofs.Sound.ByNumber as numbers
 use Rattle.law_domain.proofs.Sound.Counting.{few_stand}
@@ -19,17 +19,17 @@ use Rattle.law_domain.proofs.Sound.Scoping.{unfinished_below}
 -- ## What lies above a scope
 
 -- the context of the scope around it, or the one that the fiber began in
-abbrev LiesIn : DomainState → (base : ℕ) → List Scope → (place : ℕ) → Scope → Type 0
+abbrev LiesIn : DomainState → (base : ℕ) → List Entered → (place : ℕ) → Entered → Type 0
 LiesIn l base held i it =
-    ((around : Scope) × (slice_get held (suc i) ≡ Some around) × ((context_at l.contexts (context_in l it)).parent ≡ Some (context_in l around)))
+    ((around : Entered) × (slice_get held (suc i) ≡ Some around) × ((context_at l.contexts (context_in l it)).parent ≡ Some (context_in l around)))
     ⊎ ((context_at l.contexts (context_in l it)).parent ≡ Some base)
 
-lies_by : (l : DomainState) (base parent : ℕ) (one it : Scope) (held : List Scope) → Nests l base held parent → (context_at l.contexts (context_in l it)).parent ≡ Some parent
+lies_by : (l : DomainState) (base parent : ℕ) (one it : Entered) (held : List Entered) → Nests l base held parent → (context_at l.contexts (context_in l it)).parent ≡ Some parent
     → LiesIn l base (one ∷ held) 0 it
 lies_by l base parent one it [] nests is = inr (is ∙ ap (λ (c : ℕ). Some c) nests)
 lies_by l base parent one it (around ∷ held) nests is = inl (around, refl, is ∙ ap (λ (c : ℕ). Some c) (sym nests.0))
 
-lies_in : (l : DomainState) (base : ℕ) (held : List Scope) (context : ℕ) → Nests l base held context → (i : ℕ) (it : Scope) → slice_get held i ≡ Some it → LiesIn l base held i it
+lies_in : (l : DomainState) (base : ℕ) (held : List Entered) (context : ℕ) → Nests l base held context → (i : ℕ) (it : Entered) → slice_get held i ≡ Some it → LiesIn l base held i it
 lies_in l base [] context nests i it is = absurd (none-some _ is)
 lies_in l base (one ∷ held) context nests zero it is = (
     let same : one ≡ it = same_Some _ _ is in
@@ -37,7 +37,7 @@ lies_in l base (one ∷ held) context nests zero it is = (
     (ap (λ (c : ℕ). (context_at l.contexts c).parent) (ap (context_in l) (sym same) ∙ nests.0) ∙ nests.2))
 lies_in l base (one ∷ held) context nests (suc i) it is = lies_in l base held nests.1 nests.3 i it is
 
-module _ (held : ℕ → List Scope) (lines : ℕ) (l : DomainState) (sound : IsSoundWith held lines l) where
+module _ (held : ℕ → List Entered) (lines : ℕ) (l : DomainState) (sound : IsSoundWith held lines l) where
   -- ## Live contexts
 
   -- that of a switch that isn't finished
@@ -59,7 +59,7 @@ module _ (held : ℕ → List Scope) (lines : ℕ) (l : DomainState) (sound : Is
   base_live g lives (OfGroup n) is may = (let it = sound.scoped.gathered n g is lives in (sound.scoped.entered (InGroup n it.0) it.1 it.2 it.3).live)
   base_live g lives role is may = absurd may
 
-  live_by : (g : ℕ) → has_ended (fiber_at l.fibers g) ≡ false → (these : List Scope) → held g ≡ these
+  live_by : (g : ℕ) → has_ended (fiber_at l.fibers g) ≡ false → (these : List Entered) → held g ≡ these
       → Nests l (base_of l (fiber_at l.fibers g).role) these (fiber_at l.fibers g).context → is_live l.contexts (fiber_at l.fibers g).context ≡ true
   live_by g lives [] are nests = ap (is_live l.contexts) nests ∙ base_live g lives (fiber_at l.fibers g).role refl ((sound.fibers g).role lives)
   live_by g lives (one ∷ these) are nests =
@@ -76,8 +76,8 @@ module _ (held : ℕ → List Scope) (lines : ℕ) (l : DomainState) (sound : Is
   nobody_new n daemon there = true≢false (sym (ap has_ended (numbers.past_all never_made l.fibers (length l.fibers) (omega arith))) ∙ (sound.attaching.attached n daemon (length l.fibers) there).1)
 
   -- no context, where it is neither that of a scope around another one, nor the one that a fiber began in
-  childless_by : (c : ℕ) → ((it : Scope) (h i : ℕ) → ScopeAt held l it h (suc i) → context_in l it ≡ c → ⊥)
-      → ((h : ℕ) (i : ℕ) (it : Scope) → ScopeAt held l it h i → base_of l (fiber_at l.fibers h).role ≡ c → ⊥)
+  childless_by : (c : ℕ) → ((it : Entered) (h i : ℕ) → ScopeAt held l it h (suc i) → context_in l it ≡ c → ⊥)
+      → ((h : ℕ) (i : ℕ) (it : Entered) → ScopeAt held l it h i → base_of l (fiber_at l.fibers h).role ≡ c → ⊥)
       → (x : ℕ) → is_live l.contexts x ≡ true → (context_at l.contexts x).parent ≢ Some c
   childless_by c no_next no_base x live is = elim (sound.scoped.owned x live) as (λ _. ⊥) [
     | inl e ↦ none-some _ (sym sound.scoped.root ∙ (ap (λ (y : ℕ). (context_at l.contexts y).parent) (sym e) ∙ is))
@@ -92,15 +92,15 @@ module _ (held : ℕ → List Scope) (lines : ℕ) (l : DomainState) (sound : Is
 
   -- ### Of the innermost scope of a fiber, to which nobody is attached
 
-  module _ (scope : Scope) (g : ℕ) (here : ScopeAt held l scope g 0)
+  module _ (scope : Entered) (g : ℕ) (here : ScopeAt held l scope g 0)
       (nobody : (n : ℕ) → scope ≡ InSwitch n → (daemon : Bool) → attached_to daemon (switch_at l.switches n) ≡ [])
       (no_branch : (n : ℕ) (own : Bool) (h : ℕ) → scope ≡ InGroup n own → (fiber_at l.fibers h).role ≡ OfGroup n → has_ended (fiber_at l.fibers h) ≡ false → ⊥) where
-    at_same_place : (it : Scope) (h i : ℕ) → ScopeAt held l it h i → context_in l it ≡ context_in l scope → scope ≡ it
+    at_same_place : (it : Entered) (h i : ℕ) → ScopeAt held l it h i → context_in l it ≡ context_in l scope → scope ≡ it
     at_same_place it h i at same = (
         let both = sound.scoped.once it scope h g i 0 at here same in
         same_Some _ _ (sym here.there ∙ (ap (λ (m : ℕ). slice_get (held m) 0) (sym both.0) ∙ (ap (λ (j : ℕ). slice_get (held h) j) (sym both.1) ∙ at.there))))
 
-    no_next : (it : Scope) (h i : ℕ) → ScopeAt held l it h (suc i) → context_in l it ≡ context_in l scope → ⊥
+    no_next : (it : Entered) (h i : ℕ) → ScopeAt held l it h (suc i) → context_in l it ≡ context_in l scope → ⊥
     no_next it h i at same = (let both = sound.scoped.once it scope h g (suc i) 0 at here same in let places = both.1 in omega (arith, places))
 
     no_role : (h : ℕ) → has_ended (fiber_at l.fibers h) ≡ false → (role : Role) → (fiber_at l.fibers h).role ≡ role → IsBuiltRole h role → base_of l role ≡ context_in l scope → ⊥
@@ -119,7 +119,7 @@ module _ (held : ℕ → List Scope) (lines : ℕ) (l : DomainState) (sound : Is
     scope_childless = childless_by (context_in l scope) no_next
         (λ h i it at same. no_role h at.lives (fiber_at l.fibers h).role refl ((sound.fibers h).role at.lives) same)
 
-    runs_by : (h : ℕ) → has_ended (fiber_at l.fibers h) ≡ false → (these : List Scope) → held h ≡ these
+    runs_by : (h : ℕ) → has_ended (fiber_at l.fibers h) ≡ false → (these : List Entered) → held h ≡ these
         → Nests l (base_of l (fiber_at l.fibers h).role) these (fiber_at l.fibers h).context → (fiber_at l.fibers h).context ≡ context_in l scope → h ≡ g
     runs_by h lives [] are nests same = absurd (no_role h lives (fiber_at l.fibers h).role refl ((sound.fibers h).role lives) (sym nests ∙ same))
     runs_by h lives (one ∷ these) are nests same =
@@ -132,7 +132,7 @@ module _ (held : ℕ → List Scope) (lines : ℕ) (l : DomainState) (sound : Is
   -- ### Of the body, which is in no scope
 
   module _ (outside : held 0 ≡ []) where
-    not_root : (it : Scope) (h i : ℕ) → ScopeAt held l it h i → context_in l it ≡ 0 → ⊥
+    not_root : (it : Entered) (h i : ℕ) → ScopeAt held l it h i → context_in l it ≡ 0 → ⊥
     not_root it h i at same = (let low = (sound.scoped.entered it h i at).low in omega (arith, low, same))
 
     only_body : (h : ℕ) → has_ended (fiber_at l.fibers h) ≡ false → (role : Role) → (fiber_at l.fibers h).role ≡ role → IsBuiltRole h role → base_of l role ≡ 0 → h ≡ 0
@@ -149,7 +149,7 @@ module _ (held : ℕ → List Scope) (lines : ℕ) (l : DomainState) (sound : Is
         let e : h ≡ 0 = only_body h at.lives (fiber_at l.fibers h).role refl ((sound.fibers h).role at.lives) same in
         none-some _ (ap (λ xs. slice_get xs i) (sym (ap held e ∙ outside)) ∙ at.there)))
 
-    body_by : (h : ℕ) → has_ended (fiber_at l.fibers h) ≡ false → (these : List Scope) → held h ≡ these
+    body_by : (h : ℕ) → has_ended (fiber_at l.fibers h) ≡ false → (these : List Entered) → held h ≡ these
         → Nests l (base_of l (fiber_at l.fibers h).role) these (fiber_at l.fibers h).context → (fiber_at l.fibers h).context ≡ 0 → h ≡ 0
     body_by h lives [] are nests same = only_body h lives (fiber_at l.fibers h).role refl ((sound.fibers h).role lives) (sym nests ∙ same)
     body_by h lives (one ∷ these) are nests same =

@@ -24,7 +24,7 @@ use Rattle.spec_machine.specs.Moves.{own_call}
 use Rattle.spec_machine.specs.Steps.{Step, counted, member, does, raises, new_raise, halts, in_new}
 use Rattle.spec_machine.specs.SwitchMoves.{did_fork, is_daemon, forked, makes, fails, with_switch_at}
 use Rattle.law_domain.specs.Sound.BuiltForms.{IsBuiltBlock}
-use Rattle.law_domain.specs.Sound.Scopes.{Scope, InContext, scopes, scopes_in, scopes_of}
+use Rattle.law_domain.specs.Sound.Scopes.{Entered, InContext, scopes, scopes_in, scopes_of}
 use Rattle.law_domain.specs.Sound.SoundStates.{IsSoundPosition, IsSoundWith, attached_to}
 use Rattle.law_domain.proofs.Sound.BuiltSettle.{items_built}
 use Rattle.law_domain.proofs.Sound.ByNumber as numbers
@@ -52,7 +52,7 @@ attached_by refused new daemon s = elim refused [
   | false ↦ record { taken = true; switch = switches.with_fiber new daemon s }
 ]
 
-module _ (g : ℕ) (held : ℕ → List Scope) (l : DomainState) (mid : IsMid g held l.lines l) (sees : held g ≡ scopes_in (fiber_at l.fibers g).work) (stamp : ℕ)
+module _ (g : ℕ) (held : ℕ → List Entered) (l : DomainState) (mid : IsMid g held l.lines l) (sees : held g ≡ scopes_in (fiber_at l.fibers g).work) (stamp : ℕ)
     (n : ℕ) (block : Block) (built : IsBuiltBlock block) (forking : Forking) (begins : (variables : List Value) → forked forking block variables ≡ begun block variables) where
   abbrev variables : List Value
   variables = (fiber_at l.fibers g).variables

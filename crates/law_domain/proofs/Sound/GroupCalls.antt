@@ -23,7 +23,7 @@ use Rattle.spec_machine.specs.GroupMoves.{branched, branches_in, did_branch, kin
 use Rattle.spec_machine.specs.Moves.{own_call}
 use Rattle.spec_machine.specs.Steps.{Step, halts, in_new, raises_cancelled}
 use Rattle.law_domain.specs.Sound.BuiltForms.{IsBuiltBlock, AreBuilt}
-use Rattle.law_domain.specs.Sound.Scopes.{Scope, InGroup, ScopeAt, scopes_in, scopes_of}
+use Rattle.law_domain.specs.Sound.Scopes.{Entered, InGroup, ScopeAt, scopes_in, scopes_of}
 use Rattle.law_domain.specs.Sound.SoundStates.{IsSoundWith}
 use Rattle.law_domain.proofs.Sound.BuiltSettle.{items_built}
 use Rattle.law_domain.proofs.Sound.ByNumber as numbers
@@ -78,7 +78,7 @@ new_count c n variables (block ∷ blocks) cells = ap suc (new_count c n variabl
 -- ## Made one by one
 
 -- what has become of the domain, in which so many more are left of the group
-record Grown (g : ℕ) (held : ℕ → List Scope) (lines n more : ℕ) (m : DomainState) (news : List Fiber) : Type 0 where
+record Grown (g : ℕ) (held : ℕ → List Entered) (lines n more : ℕ) (m : DomainState) (news : List Fiber) : Type 0 where
   groups : List Group
   mid : IsMid g held lines (record m { fibers = m.fibers ++ news; groups = groups })
   made : length groups ≡ length m.groups
@@ -86,7 +86,7 @@ record Grown (g : ℕ) (held : ℕ → List Scope) (lines n more : ℕ) (m : Dom
   left : (group_at groups n).left ≡ (group_at m.groups n).left + more
   elsewhere : (x : ℕ) → x ≢ n → (group_at groups x).left ≡ (group_at m.groups x).left
 
-module _ (g : ℕ) (held : ℕ → List Scope) (lines c n : ℕ) (variables : List Value) where
+module _ (g : ℕ) (held : ℕ → List Entered) (lines c n : ℕ) (variables : List Value) where
   grows : (blocks : List Block) (cells : Cells) (m : DomainState) → IsMid g held lines m → All IsBuiltBlock blocks
       → ((own : Bool) × (h : ℕ) × (i : ℕ) × ScopeAt held m (InGroup n own) h i) → (group_at m.groups n).context ≡ c → n < length m.groups
       → live_fibers m.fibers + length blocks ≤ most_fibers → Grown g held lines n (length blocks) m (new_branches c n variables blocks cells)
@@ -178,7 +178,7 @@ new_ready c n variables (block ∷ blocks) cells zero less = refl
 new_ready c n variables (block ∷ blocks) cells (suc i) less = new_ready c n variables blocks (behind_next_cell cells) i (omega (arith, less))
 
 -- more stand in the ready list
-ready_more : (held : ℕ → List Scope) (lines : ℕ) (l : DomainState) (more : List ℕ) → IsSoundWith held lines l → AreDistinct more
+ready_more : (held : ℕ → List Entered) (lines : ℕ) (l : DomainState) (more : List ℕ) → IsSoundWith held lines l → AreDistinct more
     → ((h : ℕ) → Contains more h → (next : Next) × ((fiber_at l.fibers h).standing ≡ Ready next)) → IsSoundWith held lines (record l { ready = more })
 ready_more held lines l more sound distinct all = record {
   owes = sound.owes;
@@ -241,7 +241,7 @@ take_count (x ∷ xs) (suc k) few = ap suc (take_count xs k (omega (arith, few))
 
 -- ## The call
 
-module _ (g : ℕ) (held : ℕ → List Scope) (l : DomainState) (mid : IsMid g held l.lines l) (sees : held g ≡ scopes_in (fiber_at l.fibers g).work) (stamp : ℕ)
+module _ (g : ℕ) (held : ℕ → List Entered) (l : DomainState) (mid : IsMid g held l.lines l) (sees : held g ≡ scopes_in (fiber_at l.fibers g).work) (stamp : ℕ)
     (kind : syntax.Group) (blocks : List Block) (some : 1 ≤ length blocks) (built : All IsBuiltBlock blocks) where
   abbrev c : ℕ
   c = length l.contexts
@@ -296,7 +296,7 @@ module _ (g : ℕ) (held : ℕ → List Scope) (l : DomainState) (mid : IsMid g 
     sound = (items_built (own_branch blocks) (own_built blocks built), (tt, (mid.sound.fibers g).position (mid_lives g held l.lines l mid)));
   }
 
-  abbrev new : ℕ → List Scope
+  abbrev new : ℕ → List Entered
   new = with_held g (InGroup n true ∷ held g) held
 
   mid_inside : IsMid g new (l.lines + 1) inside

@@ -9,7 +9,7 @@ use Rattle.spec_parts.specs.Groups.{GroupKind, Group, group_at, gathered, never_
 use Rattle.spec_parts.specs.Switches.{switch_at}
 use Rattle.spec_fiber.specs.Replies.{Position}
 use Rattle.spec_machine.specs.Domain.{OfGroup, Fiber, DomainState, fiber_at, has_ended, live_fibers}
-use Rattle.law_domain.specs.Sound.Scopes.{Scope, InGroup, scopes}
+use Rattle.law_domain.specs.Sound.Scopes.{Entered, InGroup, scopes}
 use Rattle.law_domain.specs.Sound.SoundStates.{IsCounted, IsSoundFiber, IsSoundPosition, IsSoundWith, IsStrike, attached_to, branches_of, own_branches}
 use Rattle.law_domain.proofs.Sound.Attaching.{attached_same}
 use Rattle.law_domain.proofs.Sound.ByNumber as numbers
@@ -33,12 +33,12 @@ pub record GathersOne (g : ℕ) (kind : GroupKind) (position : Position) (l k : 
   pub timers : k.timers ≡ l.timers
   pub sound : IsSoundPosition (length k.switches) (length k.contexts) position.work position.variables
 
-module _ (g : ℕ) (held : ℕ → List Scope) (lines : ℕ) (l k : DomainState) (kind : GroupKind) (position : Position)
+module _ (g : ℕ) (held : ℕ → List Entered) (lines : ℕ) (l k : DomainState) (kind : GroupKind) (position : Position)
     (mid : IsMid g held lines l) (one : GathersOne g kind position l k) where
-  abbrev scope : Scope
+  abbrev scope : Entered
   scope = InGroup (length l.groups) true
 
-  abbrev new : ℕ → List Scope
+  abbrev new : ℕ → List Entered
   new = with_held g (scope ∷ held g) held
 
   abbrev entering : Fiber

@@ -9,7 +9,7 @@ use Rattle.spec_parts.specs.Groups.{group_at}
 use Rattle.spec_parts.specs.Switches.{switch_at}
 use Rattle.spec_parts.specs.Contexts.{context_at, is_live}
 use Rattle.spec_machine.specs.Domain.{Role, OfBody, OfJob, OfSwitch, OfGroup, OfWriter, GoesOn, Ready, Fiber, DomainState, never_made, fiber_at, has_ended, live_fibers, most_fibers}
-use Rattle.law_domain.specs.Sound.Scopes.{Scope, InGroup, ScopeAt, base_of, scopes, scopes_of}
+use Rattle.law_domain.specs.Sound.Scopes.{Entered, InGroup, ScopeAt, base_of, scopes, scopes_of}
 use Rattle.law_domain.specs.Sound.SoundStates.{HasAttached, IsCounted, IsScoped, IsBuiltRole, IsBuiltStanding, IsSoundFiber, IsSoundPosition, IsSoundWith, IsStrike, attached_to, branches_of}
 use Rattle.law_domain.proofs.Sound.Branches.{is_branch, is_none, is_one}
 use Rattle.law_domain.proofs.Sound.ByNumber as numbers
@@ -19,7 +19,7 @@ use Rattle.law_domain.proofs.Sound.Lists.{AreDistinct}
 use Rattle.law_domain.proofs.Sound.Midst.{IsMid, fiber_grows, mid_lives, is_ready_lives}
 use Rattle.law_domain.proofs.Sound.Staying.{StaysIn, IsNew, scopes_stay}
 
-pub record BranchesOne (held : ℕ → List Scope) (n : ℕ) (fiber : Fiber) (l k : DomainState) : Type 0 where
+pub record BranchesOne (held : ℕ → List Entered) (n : ℕ) (fiber : Fiber) (l k : DomainState) : Type 0 where
   pub fibers : k.fibers ≡ l.fibers ++ fiber ∷ []
   pub role : fiber.role ≡ OfGroup n
   pub context : fiber.context ≡ (group_at l.groups n).context
@@ -44,7 +44,7 @@ group_of role = elim role [ OfBody ↦ 0 | OfJob executor number ↦ 0 | OfSwitc
 abbrev is_of_switch : Role → Bool
 is_of_switch role = elim role [ OfBody ↦ false | OfJob executor number ↦ false | OfSwitch switch daemon ↦ true | OfGroup group ↦ false | OfWriter writer ↦ false ]
 
-module _ (g : ℕ) (held : ℕ → List Scope) (lines : ℕ) (l k : DomainState) (n : ℕ) (fiber : Fiber)
+module _ (g : ℕ) (held : ℕ → List Entered) (lines : ℕ) (l k : DomainState) (n : ℕ) (fiber : Fiber)
     (mid : IsMid g held lines l) (one : BranchesOne held n fiber l k) where
   abbrev new : ℕ
   new = length l.fibers
@@ -101,7 +101,7 @@ module _ (g : ℕ) (held : ℕ → List Scope) (lines : ℕ) (l k : DomainState)
 
   -- ## Scopes
 
-  is_at : (scope : Scope) (h i : ℕ) → ScopeAt held l scope h i → ScopeAt held k scope h i
+  is_at : (scope : Entered) (h i : ℕ) → ScopeAt held l scope h i → ScopeAt held k scope h i
   is_at scope h i at = record { lives = ap has_ended (others h (is_other h at.lives)) ∙ at.lives; there = at.there }
 
   count_then : (m : ℕ) → branches_of m k.fibers ≡ branches_of m l.fibers + one_if (is_branch m fiber)

@@ -13,7 +13,7 @@ use Rattle.spec_fiber.specs.Work.{Work}
 use Rattle.spec_machine.specs.Domain.{CallsAgain, OnObject, Asleep, ForCancel, ForOthers, Resting, Standing, Ready, Parked, Ended, Fiber, DomainState, fiber_at, has_ended, to_back}
 use Rattle.spec_machine.specs.GroupMoves.{cancels_if}
 use Rattle.spec_machine.specs.SwitchMoves.{woken, woken_if}
-use Rattle.law_domain.specs.Sound.Scopes.{Scope, InGroup, scope_held, scopes, scopes_in, scopes_of}
+use Rattle.law_domain.specs.Sound.Scopes.{Entered, InGroup, scope_held, scopes, scopes_in, scopes_of}
 use Rattle.law_domain.specs.Sound.SoundStates.{HasAttached, IsCounted, IsBuiltStanding, branches_of}
 use Rattle.law_domain.proofs.Sound.Attaching.{attached_same}
 use Rattle.law_domain.proofs.Sound.Changes.{OnlyAt, of_only}
@@ -52,7 +52,7 @@ module _ (l : DomainState) (changed : List Group) where
     groups_made = omega (arith, made, was.groups_made);
   }
 
-pub mid_regrouped : (g : ℕ) (held : ℕ → List Scope) (lines : ℕ) (l : DomainState) (changed : List Group) → IsMid g held lines l → SameGroups l.groups changed
+pub mid_regrouped : (g : ℕ) (held : ℕ → List Entered) (lines : ℕ) (l : DomainState) (changed : List Group) → IsMid g held lines l → SameGroups l.groups changed
     → IsMid g held lines (record l { groups = changed })
 mid_regrouped g held lines l changed mid same = record {
   sound = record {
@@ -83,13 +83,13 @@ mid_regrouped g held lines l changed mid same = record {
 
 -- ## The own branch has ended
 
-pub mid_own_ends : (g : ℕ) (held : ℕ → List Scope) (lines : ℕ) (l : DomainState) (changed : List Group) (n : ℕ) (behind : List Scope) → IsMid g held lines l
+pub mid_own_ends : (g : ℕ) (held : ℕ → List Entered) (lines : ℕ) (l : DomainState) (changed : List Group) (n : ℕ) (behind : List Entered) → IsMid g held lines l
     → held g ≡ InGroup n true ∷ behind → length changed ≡ length l.groups
     → ((m : ℕ) → (group_at changed m).context ≡ (group_at l.groups m).context) → (group_at changed n).left + 1 ≡ (group_at l.groups n).left
     → ((m : ℕ) → m ≢ n → (group_at changed m).left ≡ (group_at l.groups m).left)
     → IsMid g (with_held g (InGroup n false ∷ behind) held) lines (record l { groups = changed })
 mid_own_ends g held lines l changed n behind mid had made contexts left elsewhere = (
-    let new : ℕ → List Scope = with_held g (InGroup n false ∷ behind) held in
+    let new : ℕ → List Entered = with_held g (InGroup n false ∷ behind) held in
     record {
       sound = record {
         owes = mid.sound.owes;
@@ -157,7 +157,7 @@ less_one result group = (
 
 -- ## Who is woken, in the midst of a move
 
-pub record MidStill (g : ℕ) (held : ℕ → List Scope) (told : ℕ) (work : List Work) (l : DomainState) : Type 0 where
+pub record MidStill (g : ℕ) (held : ℕ → List Entered) (told : ℕ) (work : List Work) (l : DomainState) : Type 0 where
   pub mid : IsMid g held told l
   pub told_by : l.lines ≡ told
   pub same_work : (fiber_at l.fibers g).work ≡ work
@@ -176,7 +176,7 @@ woken_so standing g l = elim standing [
 abbrev is_ready : Standing → Bool
 is_ready standing = elim standing [ Ready next ↦ true | Parked wait ↦ false | Ended it ↦ false ]
 
-module _ (g : ℕ) (held : ℕ → List Scope) (told : ℕ) (work : List Work) (l : DomainState) (still : MidStill g held told work l) (w : ℕ) where
+module _ (g : ℕ) (held : ℕ → List Entered) (told : ℕ) (work : List Work) (l : DomainState) (still : MidStill g held told work l) (w : ℕ) where
   module _ (call : Ask) (is : (fiber_at l.fibers w).standing ≡ Parked (ForOthers call)) where
     lives : has_ended (fiber_at l.fibers w) ≡ false
     lives = ap standing_ended is
@@ -225,7 +225,7 @@ module _ (g : ℕ) (held : ℕ → List Scope) (told : ℕ) (work : List Work) (
   mid_woken : MidStill g held told work (woken w l)
   mid_woken = by_standing (fiber_at l.fibers w).standing refl
 
-pub mid_woken_if : (found : Option ℕ) (g : ℕ) (held : ℕ → List Scope) (told : ℕ) (work : List Work) (l : DomainState) → MidStill g held told work l
+pub mid_woken_if : (found : Option ℕ) (g : ℕ) (held : ℕ → List Entered) (told : ℕ) (work : List Work) (l : DomainState) → MidStill g held told work l
     → MidStill g held told work (woken_if found l)
 mid_woken_if None g held told work l still = still
 mid_woken_if (Some w) g held told work l still = mid_woken g held told work l still w

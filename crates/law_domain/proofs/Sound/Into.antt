@@ -7,7 +7,7 @@ use Rattle.spec_parts.specs.Contexts.{context_at, is_live}
 use Rattle.spec_parts.specs.Groups.{group_at}
 use Rattle.spec_parts.specs.Switches.{switch_at}
 use Rattle.spec_machine.specs.Domain.{Role, OfBody, OfJob, OfSwitch, OfGroup, OfWriter, Fiber, DomainState, fiber_at, has_ended}
-use Rattle.law_domain.specs.Sound.Scopes.{Scope, InContext, InSwitch, InGroup, Nests, ScopeAt, IsEntered, IsUnfinished, base_of, context_in}
+use Rattle.law_domain.specs.Sound.Scopes.{Entered, InContext, InSwitch, InGroup, Nests, ScopeAt, IsEntered, IsUnfinished, base_of, context_in}
 use Rattle.law_domain.specs.Sound.SoundStates.{HasAttached, IsScoped, branches_of, is_of_group, own_branches}
 use Rattle.law_domain.proofs.Sound.ByNumber.{same_or_other}
 use Rattle.law_domain.proofs.Sound.Counting.{count_same}
@@ -31,7 +31,7 @@ forked_unfinished l attaching n daemon h role lives = by_finished (switch_at l.s
   by_finished false is = is
 
 -- what is there once it has gone into this scope, whose context is this one
-pub record GoesInto (old new : ℕ → List Scope) (l k : DomainState) (g : ℕ) (scope : Scope) (c : ℕ) : Type 0 where
+pub record GoesInto (old new : ℕ → List Entered) (l k : DomainState) (g : ℕ) (scope : Entered) (c : ℕ) : Type 0 where
   pub lives : has_ended (fiber_at l.fibers g) ≡ false
   pub people : SamePeople l k
   pub contexts : (h : ℕ) → h ≢ g → (fiber_at k.fibers h).context ≡ (fiber_at l.fibers h).context
@@ -53,7 +53,7 @@ pub record GoesInto (old new : ℕ → List Scope) (l k : DomainState) (g : ℕ)
   pub unfinished : IsUnfinished k scope
   pub left : (n : ℕ) (own : Bool) → scope ≡ InGroup n own → (group_at k.groups n).left ≡ branches_of n k.fibers + own_branches own
 
-module _ (old new : ℕ → List Scope) (l k : DomainState) (g : ℕ) (scope : Scope) (c : ℕ)
+module _ (old new : ℕ → List Entered) (l k : DomainState) (g : ℕ) (scope : Entered) (c : ℕ)
     (scoped : IsScoped old l) (attaching : HasAttached l) (into : GoesInto old new l k g scope c) where
   lived : (h : ℕ) → has_ended (fiber_at k.fibers h) ≡ false → has_ended (fiber_at l.fibers h) ≡ false
   lived h lives = sym (into.people.ended h) ∙ lives
@@ -77,7 +77,7 @@ module _ (old new : ℕ → List Scope) (l k : DomainState) (g : ℕ) (scope : S
     | inr none ↦ absurd (omega (arith, low, none))
   ]
 
-  same_context : (it : Scope) → IsEntered l it → context_in k it ≡ context_in l it
+  same_context : (it : Entered) → IsEntered l it → context_in k it ≡ context_in l it
   same_context (InContext x) was = refl
   same_context (InSwitch n) was = (unfinished_switch n was.unfinished).0
   same_context (InGroup n own) was = (entered_group n was.low).0
@@ -95,19 +95,19 @@ module _ (old new : ℕ → List Scope) (l k : DomainState) (g : ℕ) (scope : S
   is_older : (x : ℕ) → is_live l.contexts x ≡ true → x ≢ c
   is_older x live e = true≢false (sym live ∙ (ap (is_live l.contexts) e ∙ into.unused))
 
-  entered_on : (it : Scope) → IsEntered l it → IsEntered k it
+  entered_on : (it : Entered) → IsEntered l it → IsEntered k it
   entered_on it was = record {
     low = subst (λ (x : ℕ). 0 < x) (sym (same_context it was)) was.low;
     live = ap (is_live k.contexts) (same_context it was) ∙ (into.live (context_in l it) (is_older _ was.live) ∙ was.live);
     unfinished = unfinished_on it was;
   } where
-    unfinished_on : (it : Scope) → IsEntered l it → IsUnfinished k it
+    unfinished_on : (it : Entered) → IsEntered l it → IsUnfinished k it
     unfinished_on (InContext x) was = tt
     unfinished_on (InSwitch n) was = (unfinished_switch n was.unfinished).1 ∙ was.unfinished
     unfinished_on (InGroup n own) was = tt
 
   -- scopes that a fiber was in lie in one another as they did
-  nests_on : (h : ℕ) → has_ended (fiber_at l.fibers h) ≡ false → (held : List Scope) → ((i : ℕ) (it : Scope) → slice_get held i ≡ Some it → IsEntered l it)
+  nests_on : (h : ℕ) → has_ended (fiber_at l.fibers h) ≡ false → (held : List Entered) → ((i : ℕ) (it : Entered) → slice_get held i ≡ Some it → IsEntered l it)
       → (base context : ℕ) → Nests l base held context → Nests k base held context
   nests_on h lives [] all base context it = it
   nests_on h lives (one ∷ held) all base context it = (
@@ -144,19 +144,19 @@ module _ (old new : ℕ → List Scope) (l k : DomainState) (g : ℕ) (scope : S
   -- ## Where scopes are
 
   -- the new one; one of the fiber that went in; or one of another fiber
-  data WasAt (it : Scope) (h i : ℕ) : Type 0 where
+  data WasAt (it : Entered) (h i : ℕ) : Type 0 where
     IsNewest : it ≡ scope → h ≡ g → i ≡ 0 → WasAt it h i
     Deeper : (j : ℕ) → h ≡ g → i ≡ suc j → ScopeAt old l it h j → WasAt it h i
     Elsewhere : h ≢ g → ScopeAt old l it h i → WasAt it h i
 
-  was_deeper : (it : Scope) (h i : ℕ) → h ≡ g → has_ended (fiber_at l.fibers h) ≡ false → slice_get (scope ∷ old h) i ≡ Some it → WasAt it h i
+  was_deeper : (it : Entered) (h i : ℕ) → h ≡ g → has_ended (fiber_at l.fibers h) ≡ false → slice_get (scope ∷ old h) i ≡ Some it → WasAt it h i
   was_deeper it h zero e lives there = IsNewest (sym (same_Some _ _ there)) e refl
   was_deeper it h (suc j) e lives there = Deeper j e refl (record { lives = lives; there = there })
 
   held_by : (h : ℕ) → h ≡ g → new h ≡ scope ∷ old h
   held_by h e = subst (λ (m : ℕ). new m ≡ scope ∷ old m) (sym e) into.has
 
-  was_at : (it : Scope) (h i : ℕ) → ScopeAt new k it h i → WasAt it h i
+  was_at : (it : Entered) (h i : ℕ) → ScopeAt new k it h i → WasAt it h i
   was_at it h i at = elim (same_or_other h g) as (λ _. WasAt it h i) [
     | inl e ↦ was_deeper it h i e (lived h at.lives) (ap (λ xs. slice_get xs i) (sym (held_by h e)) ∙ at.there)
     | inr other ↦ Elsewhere other (record { lives = lived h at.lives; there = ap (λ xs. slice_get xs i) (sym (into.others h other)) ∙ at.there })
@@ -165,27 +165,27 @@ module _ (old new : ℕ → List Scope) (l k : DomainState) (g : ℕ) (scope : S
   newest_at : ScopeAt new k scope g 0
   newest_at = record { lives = lives_on g into.lives; there = ap (λ xs. slice_get xs 0) into.has }
 
-  is_at : (it : Scope) (h i : ℕ) → ScopeAt old l it h i → (m : ℕ) × (j : ℕ) × ScopeAt new k it m j
+  is_at : (it : Entered) (h i : ℕ) → ScopeAt old l it h i → (m : ℕ) × (j : ℕ) × ScopeAt new k it m j
   is_at it h i at = elim (same_or_other h g) as (λ _. (m : ℕ) × (j : ℕ) × ScopeAt new k it m j) [
     | inl e ↦ (h, suc i, record { lives = lives_on h at.lives; there = ap (λ xs. slice_get xs (suc i)) (held_by h e) ∙ at.there })
     | inr other ↦ (h, i, record { lives = lives_on h at.lives; there = ap (λ xs. slice_get xs i) (into.others h other) ∙ at.there })
   ]
 
   -- the context of a scope that was entered isn't the new one
-  not_newest : (it : Scope) (h i : ℕ) → ScopeAt old l it h i → context_in k it ≡ c → ⊥
+  not_newest : (it : Entered) (h i : ℕ) → ScopeAt old l it h i → context_in k it ≡ c → ⊥
   not_newest it h i at same = (
       let was = scoped.entered it h i at in
       is_older (context_in l it) was.live (sym (same_context it was) ∙ same))
 
-  newest_context : (it : Scope) → it ≡ scope → context_in k it ≡ c
+  newest_context : (it : Entered) → it ≡ scope → context_in k it ≡ c
   newest_context it e = ap (context_in k) e ∙ into.runs_in
 
-  both_old : (one other : Scope) (g h i j : ℕ) → ScopeAt old l one g i → ScopeAt old l other h j → context_in k one ≡ context_in k other → (g ≡ h) × (i ≡ j)
+  both_old : (one other : Entered) (g h i j : ℕ) → ScopeAt old l one g i → ScopeAt old l other h j → context_in k one ≡ context_in k other → (g ≡ h) × (i ≡ j)
   both_old one other g h i j it that same =
       scoped.once one other g h i j it that
       (sym (same_context one (scoped.entered one g i it)) ∙ (same ∙ same_context other (scoped.entered other h j that)))
 
-  once : (one other : Scope) (h m i j : ℕ) → WasAt one h i → WasAt other m j → context_in k one ≡ context_in k other → (h ≡ m) × (i ≡ j)
+  once : (one other : Entered) (h m i j : ℕ) → WasAt one h i → WasAt other m j → context_in k one ≡ context_in k other → (h ≡ m) × (i ≡ j)
   once one other h m i j (IsNewest is a p) (IsNewest that b q) same = (a ∙ sym b, p ∙ sym q)
   once one other h m i j (IsNewest is a p) (Deeper d b q at) same = absurd (not_newest other m d at (sym same ∙ newest_context one is))
   once one other h m i j (IsNewest is a p) (Elsewhere away at) same = absurd (not_newest other m j at (sym same ∙ newest_context one is))
@@ -203,7 +203,7 @@ module _ (old new : ℕ → List Scope) (l k : DomainState) (g : ℕ) (scope : S
     unfinished = into.unfinished;
   }
 
-  entered_by : (it : Scope) (h i : ℕ) → WasAt it h i → IsEntered k it
+  entered_by : (it : Entered) (h i : ℕ) → WasAt it h i → IsEntered k it
   entered_by it h i (IsNewest is a p) = subst (IsEntered k) (sym is) newest_entered
   entered_by it h i (Deeper j a p at) = entered_on it (scoped.entered it h j at)
   entered_by it h i (Elsewhere away at) = entered_on it (scoped.entered it h i at)
@@ -221,13 +221,13 @@ module _ (old new : ℕ → List Scope) (l k : DomainState) (g : ℕ) (scope : S
   opened_then : (n : ℕ) → (switch_at k.switches n).finished ≡ false → (h : ℕ) × (i : ℕ) × ScopeAt new k (InSwitch n) h i
   opened_then n unclosed = elim (into.switches n) as (λ _. (h : ℕ) × (i : ℕ) × ScopeAt new k (InSwitch n) h i) [
     | inl same ↦ (let it = scoped.opened n (sym same.1 ∙ unclosed) in is_at (InSwitch n) it.0 it.1 it.2)
-    | inr it ↦ (g, 0, subst (λ (s : Scope). ScopeAt new k s g 0) it.1 newest_at)
+    | inr it ↦ (g, 0, subst (λ (s : Entered). ScopeAt new k s g 0) it.1 newest_at)
   ]
 
-  owned_then : (x : ℕ) → is_live k.contexts x ≡ true → (x ≡ 0) ⊎ ((it : Scope) × (h : ℕ) × (i : ℕ) × ScopeAt new k it h i × (context_in k it ≡ x))
-  owned_then x live = elim (same_or_other x c) as (λ _. (x ≡ 0) ⊎ ((it : Scope) × (h : ℕ) × (i : ℕ) × ScopeAt new k it h i × (context_in k it ≡ x))) [
+  owned_then : (x : ℕ) → is_live k.contexts x ≡ true → (x ≡ 0) ⊎ ((it : Entered) × (h : ℕ) × (i : ℕ) × ScopeAt new k it h i × (context_in k it ≡ x))
+  owned_then x live = elim (same_or_other x c) as (λ _. (x ≡ 0) ⊎ ((it : Entered) × (h : ℕ) × (i : ℕ) × ScopeAt new k it h i × (context_in k it ≡ x))) [
     | inl e ↦ inr (scope, g, 0, newest_at, into.runs_in ∙ sym e)
-    | inr other ↦ elim (scoped.owned x (sym (into.live x other) ∙ live)) as (λ _. (x ≡ 0) ⊎ ((it : Scope) × (h : ℕ) × (i : ℕ) × ScopeAt new k it h i × (context_in k it ≡ x))) [
+    | inr other ↦ elim (scoped.owned x (sym (into.live x other) ∙ live)) as (λ _. (x ≡ 0) ⊎ ((it : Entered) × (h : ℕ) × (i : ℕ) × ScopeAt new k it h i × (context_in k it ≡ x))) [
       | inl e ↦ inl e
       | inr it ↦ (
           let on = is_at it.0 it.1 it.2 it.3 in

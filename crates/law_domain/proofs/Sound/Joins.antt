@@ -12,7 +12,7 @@ use Rattle.spec_machine.specs.Domain.{GoesOn, ForOthers, OfGroup, Fiber, DomainS
 use Rattle.spec_machine.specs.ContextMoves.{leaves}
 use Rattle.spec_machine.specs.GroupMoves.{branch_ended, cancels_if, joined_by, own_ended}
 use Rattle.spec_machine.specs.Moves.{own_call}
-use Rattle.law_domain.specs.Sound.Scopes.{Scope, InGroup, ScopeAt, scopes_in}
+use Rattle.law_domain.specs.Sound.Scopes.{Entered, InGroup, ScopeAt, scopes_in}
 use Rattle.law_domain.specs.Sound.SoundStates.{branches_of}
 use Rattle.law_domain.proofs.Sound.Branches.{nobody_branches}
 use Rattle.law_domain.proofs.Sound.ByNumber as numbers
@@ -26,7 +26,7 @@ use Rattle.law_domain.proofs.Sound.Scoping.{with_held, held_here, groups_below, 
 
 -- ## Once the own branch has ended
 
-module _ (g : ℕ) (held : ℕ → List Scope) (t : DomainState) (mid : IsMid g held t.lines t) (n : ℕ) (own : Option Outcome)
+module _ (g : ℕ) (held : ℕ → List Entered) (t : DomainState) (mid : IsMid g held t.lines t) (n : ℕ) (own : Option Outcome)
     (sees : held g ≡ InGroup n false ∷ scopes_in (fiber_at t.fibers g).work) (stamp : ℕ) where
   abbrev group : Group
   group = group_at t.groups n
@@ -70,7 +70,7 @@ module _ (g : ℕ) (held : ℕ → List Scope) (t : DomainState) (mid : IsMid g 
       timers = refl;
     }
 
-    abbrev outside : List Scope
+    abbrev outside : List Entered
     outside = scopes_in (fiber_at t.fibers g).work
 
     comes_to : (result : Outcome) → IsSoundUnless (one_more_line (to_head (GoesOn result) g gone) stamp)
@@ -95,12 +95,12 @@ module _ (g : ℕ) (held : ℕ → List Scope) (t : DomainState) (mid : IsMid g 
 
 -- ## The own branch ends
 
-module _ (g : ℕ) (held : ℕ → List Scope) (l : DomainState) (mid : IsMid g held l.lines l) (n : ℕ) (result : Outcome)
+module _ (g : ℕ) (held : ℕ → List Entered) (l : DomainState) (mid : IsMid g held l.lines l) (n : ℕ) (result : Outcome)
     (sees : held g ≡ InGroup n true ∷ scopes_in (fiber_at l.fibers g).work) where
-  abbrev behind : List Scope
+  abbrev behind : List Entered
   behind = scopes_in (fiber_at l.fibers g).work
 
-  abbrev new : ℕ → List Scope
+  abbrev new : ℕ → List Entered
   new = with_held g (InGroup n false ∷ behind) held
 
   abbrev old_group : Group
@@ -153,7 +153,7 @@ join_kept n None script forms g held l mid sees built stamp = join_sound g held 
 join_kept n (Some result) script forms g held l mid sees built stamp = (
     let still = own_ended_still g held l mid n result sees in
     let t : DomainState = own_ended n (Some result) g l in
-    let behind : List Scope = scopes_in (fiber_at l.fibers g).work in
-    let new : ℕ → List Scope = with_held g (InGroup n false ∷ behind) held in
+    let behind : List Entered = scopes_in (fiber_at l.fibers g).work in
+    let new : ℕ → List Entered = with_held g (InGroup n false ∷ behind) held in
     join_sound g new t (subst (λ (told : ℕ). IsMid g new told t) (sym still.told_by) still.mid) n (Some result)
     (held_here g (InGroup n false ∷ behind) held ∙ ap (λ (items : List Work). InGroup n false ∷ scopes_in items) (sym still.same_work)) stamp)

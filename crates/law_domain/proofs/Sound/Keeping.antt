@@ -16,7 +16,7 @@ use Rattle.spec_machine.specs.Runs.{Fits}
 use Rattle.spec_machine.specs.Steps.{Step, counted, halts}
 use Rattle.law_domain.specs.Sound.BuiltForms.{HasBuiltForms, IsBuiltCall}
 use Rattle.law_domain.specs.Sound.Laws.{KeepsSound}
-use Rattle.law_domain.specs.Sound.Scopes.{Scope, called_scope, is_end, scopes_in, scopes_of}
+use Rattle.law_domain.specs.Sound.Scopes.{Entered, called_scope, is_end, scopes_in, scopes_of}
 use Rattle.law_domain.specs.Sound.SoundStates.{IsBuiltStanding, IsSoundState, IsSoundWith, IsStrike}
 use Rattle.law_domain.proofs.Sound.Calling.{IsSoundUnless, trace_kept, turn_kept, yield_kept, check_kept, await_kept, cancel_kept, sub_kept, protect_kept, switch_kept}
 use Rattle.law_domain.proofs.Sound.Ends.{end_kept}
@@ -31,7 +31,7 @@ use Rattle.law_domain.proofs.Sound.Untouching.{untouched_counted}
 use Rattle.law_domain.proofs.Sound.Waking.{StillSound, parked_back}
 
 -- each call that is built keeps soundness
-call_kept : (call : Ask) (script : Script) → HasBuiltForms script → (g : ℕ) (held : ℕ → List Scope) (l : DomainState) → IsMid g held l.lines l
+call_kept : (call : Ask) (script : Script) → HasBuiltForms script → (g : ℕ) (held : ℕ → List Entered) (l : DomainState) → IsMid g held l.lines l
     → held g ≡ called_scope call ++ scopes_in (fiber_at l.fibers g).work → IsBuiltCall call → (is_end call ≡ true → (fiber_at l.fibers g).work ≡ [])
     → (stamp : ℕ) → IsSoundUnless (one_more_line (own_call script call g l).state stamp)
 call_kept (ask.Trace values) script forms g held l mid sees built bare stamp = trace_kept values script forms g held l mid sees built stamp

@@ -22,7 +22,7 @@ use Rattle.spec_machine.specs.Moves.{own_call}
 use Rattle.spec_machine.specs.Steps.{Step, halts, cancels}
 use Rattle.spec_machine.specs.SwitchMoves.{closed_by, closes, fails_with, with_switch_at}
 use Rattle.law_domain.specs.Sound.BuiltForms.{HasBuiltForms}
-use Rattle.law_domain.specs.Sound.Scopes.{Scope, InContext, InSwitch, scopes_in}
+use Rattle.law_domain.specs.Sound.Scopes.{Entered, InContext, InSwitch, scopes_in}
 use Rattle.law_domain.specs.Sound.SoundStates.{attached_to}
 use Rattle.law_domain.proofs.Sound.BuiltSettle.{items_built}
 use Rattle.law_domain.proofs.Sound.Calling.{CallKept, IsSoundUnless, by_room, goes_on, goes_raising, halting, into_context}
@@ -36,12 +36,12 @@ use Rattle.law_domain.proofs.Sound.Untouching.{SameSwitch, untouched_cancels, un
 
 -- ## Leave
 
-module _ (g : ℕ) (held : ℕ → List Scope) (l : DomainState) (mid : IsMid g held l.lines l) (c : ℕ)
+module _ (g : ℕ) (held : ℕ → List Entered) (l : DomainState) (mid : IsMid g held l.lines l) (c : ℕ)
     (sees : held g ≡ InContext c ∷ scopes_in (fiber_at l.fibers g).work) where
   abbrev left : DomainState
   left = leaves c g l
 
-  abbrev behind : List Scope
+  abbrev behind : List Entered
   behind = scopes_in (fiber_at l.fibers g).work
 
   leaves_it : LeavesOne g (InContext c) l left
@@ -89,7 +89,7 @@ same_but_handlers s batch fresh = record { context = refl; finished = refl; list
   lists true = refl
   lists false = refl
 
-module _ (script : Script) (forms : HasBuiltForms script) (g : ℕ) (held : ℕ → List Scope) (l t : DomainState) (mid : IsMid g held l.lines l) (same : Untouched l t)
+module _ (script : Script) (forms : HasBuiltForms script) (g : ℕ) (held : ℕ → List Entered) (l t : DomainState) (mid : IsMid g held l.lines l) (same : Untouched l t)
     (n : ℕ) (came : Option Raised) (kept : Value) (sees : held g ≡ InSwitch n ∷ scopes_in (fiber_at l.fibers g).work) (stamp : ℕ) where
   abbrev s : Switch
   s = switch_at t.switches n
@@ -188,7 +188,7 @@ module _ (script : Script) (forms : HasBuiltForms script) (g : ℕ) (held : ℕ 
       timers = refl;
     }
 
-    abbrev outside : List Scope
+    abbrev outside : List Entered
     outside = scopes_in (fiber_at t.fibers g).work
 
     comes_to : (result : Outcome) → IsSoundUnless (one_more_line (to_head (GoesOn result) g gone) stamp)

@@ -8,7 +8,7 @@ use Rattle.spec_parts.specs.Contexts.{Context, context_at, is_live, end}
 use Rattle.spec_parts.specs.Groups.{group_at}
 use Rattle.spec_parts.specs.Switches.{Switch, switch_at, with_switch, never_opened}
 use Rattle.spec_machine.specs.Domain.{OfGroup, Fiber, DomainState, fiber_at, has_ended, live_fibers}
-use Rattle.law_domain.specs.Sound.Scopes.{Scope, InSwitch, InGroup, IsUnfinished, ScopeAt, context_in, scopes}
+use Rattle.law_domain.specs.Sound.Scopes.{Entered, InSwitch, InGroup, IsUnfinished, ScopeAt, context_in, scopes}
 use Rattle.law_domain.specs.Sound.SoundStates.{IsCounted, IsSoundFiber, IsSoundWith, IsStrike, attached_to}
 use Rattle.law_domain.proofs.Sound.Attaching.{attached_same}
 use Rattle.law_domain.proofs.Sound.ByNumber as numbers
@@ -31,7 +31,7 @@ pub record Finishes (l k : DomainState) (n : ℕ) : Type 0 where
   pub nobody : (daemon : Bool) → attached_to daemon (switch_at l.switches n) ≡ []
 
 -- what is there once it stands behind the scope
-pub record LeavesOne (g : ℕ) (scope : Scope) (l k : DomainState) : Type 0 where
+pub record LeavesOne (g : ℕ) (scope : Entered) (l k : DomainState) : Type 0 where
   pub fibers : OnlyAt g l.fibers k.fibers (record (fiber_at l.fibers g) { context = unwrap_or (context_at l.contexts (context_in l scope)).parent 0 })
   pub contexts : k.contexts ≡ end (context_in l scope) l.contexts
   pub switches : ((k.switches ≡ l.switches) × ((n : ℕ) → scope ≡ InSwitch n → ⊥)) ⊎ ((n : ℕ) × (scope ≡ InSwitch n) × Finishes l k n)
@@ -42,9 +42,9 @@ pub record LeavesOne (g : ℕ) (scope : Scope) (l k : DomainState) : Type 0 wher
   pub duties : k.duties ≡ l.duties
   pub timers : k.timers ≡ l.timers
 
-module _ (g : ℕ) (held : ℕ → List Scope) (lines : ℕ) (l k : DomainState) (scope : Scope) (rest : List Scope)
+module _ (g : ℕ) (held : ℕ → List Entered) (lines : ℕ) (l k : DomainState) (scope : Entered) (rest : List Entered)
     (mid : IsMid g held lines l) (has : held g ≡ scope ∷ rest) (one : LeavesOne g scope l k) where
-  abbrev new : ℕ → List Scope
+  abbrev new : ℕ → List Entered
   new = with_held g rest held
 
   abbrev leaving : Fiber

@@ -11,7 +11,7 @@ use Rattle.spec_parts.specs.Switches as switches
 use Rattle.spec_parts.specs.Switches.{Switch, switch_at, with_switch, never_opened}
 use Rattle.spec_parts.specs.Contexts.{context_at, is_live}
 use Rattle.spec_machine.specs.Domain.{Role, OfBody, OfJob, OfSwitch, OfGroup, OfWriter, GoesOn, Ready, Fiber, DomainState, never_made, fiber_at, has_ended, live_fibers, most_fibers}
-use Rattle.law_domain.specs.Sound.Scopes.{Scope, base_of, scopes, scopes_of}
+use Rattle.law_domain.specs.Sound.Scopes.{Entered, base_of, scopes, scopes_of}
 use Rattle.law_domain.specs.Sound.SoundStates.{HasAttached, IsCounted, IsScoped, IsBuiltRole, IsBuiltStanding, IsSoundFiber, IsSoundPosition, IsSoundWith, IsStrike, attached_to, branches_of, is_of_group}
 use Rattle.law_domain.proofs.Sound.Attaching.{attached_one}
 use Rattle.law_domain.proofs.Sound.ByNumber as numbers
@@ -66,7 +66,7 @@ same_with : (new : ℕ) (daemon : Bool) (s : Switch) → ((switches.with_fiber n
 same_with new true s = (refl, refl)
 same_with new false s = (refl, refl)
 
-module _ (g : ℕ) (held : ℕ → List Scope) (lines : ℕ) (l k : DomainState) (n : ℕ) (daemon : Bool) (fiber : Fiber)
+module _ (g : ℕ) (held : ℕ → List Entered) (lines : ℕ) (l k : DomainState) (n : ℕ) (daemon : Bool) (fiber : Fiber)
     (mid : IsMid g held lines l) (one : MakesOne n daemon fiber l k) where
   abbrev new : ℕ
   new = length l.fibers

@@ -11,7 +11,7 @@ use Rattle.spec_fiber.specs.Settling.{Settled}
 use Rattle.spec_fiber.specs.Work.{Work}
 use Rattle.spec_machine.specs.Domain.{Next, Wait, Standing, Ready, Parked, Ended, Fiber, DomainState, fiber_at, has_ended, live_fibers, stands, to_head, to_back}
 use Rattle.spec_machine.specs.Preparing.{called_by}
-use Rattle.law_domain.specs.Sound.Scopes.{Scope, scope_held, scopes, scopes_in, scopes_of}
+use Rattle.law_domain.specs.Sound.Scopes.{Entered, scope_held, scopes, scopes_in, scopes_of}
 use Rattle.law_domain.specs.Sound.SoundStates.{IsCounted, IsScoped, IsSoundFiber, IsSoundPosition, IsSoundState, IsSoundWith, IsStrike, IsBuiltNext, IsBuiltStanding, IsBuiltWait, attached_to, branches_of}
 use Rattle.law_domain.proofs.Sound.Attaching.{attached_same}
 use Rattle.law_domain.proofs.Sound.Changes.{OnlyAt, of_only, set_once}
@@ -20,7 +20,7 @@ use Rattle.law_domain.proofs.Sound.Into.{SamePeople, same_branches}
 use Rattle.law_domain.proofs.Sound.Lists.{AreDistinct, contains_behind, contains_cases, contains_first, distinct_back, distinct_behind, front_apart, not_behind}
 use Rattle.law_domain.proofs.Sound.Staying.{ScopesStay, scopes_stay}
 
-pub record IsMid (g : ℕ) (held : ℕ → List Scope) (lines : ℕ) (l : DomainState) : Type 0 where
+pub record IsMid (g : ℕ) (held : ℕ → List Entered) (lines : ℕ) (l : DomainState) : Type 0 where
   pub sound : IsSoundWith held lines l
   pub moves : (next : Next) × ((fiber_at l.fibers g).standing ≡ Ready next)
   pub away : Contains l.ready g → ⊥
@@ -38,7 +38,7 @@ standing_ended standing = elim standing [ Ended it ↦ true | Ready next ↦ fal
 pub is_ready_lives : (fiber : Fiber) (next : Next) → fiber.standing ≡ Ready next → has_ended fiber ≡ false
 is_ready_lives fiber next is = ap standing_ended is
 
-pub mid_lives : (g : ℕ) (held : ℕ → List Scope) (lines : ℕ) (l : DomainState) → IsMid g held lines l → has_ended (fiber_at l.fibers g) ≡ false
+pub mid_lives : (g : ℕ) (held : ℕ → List Entered) (lines : ℕ) (l : DomainState) → IsMid g held lines l → has_ended (fiber_at l.fibers g) ≡ false
 mid_lives g held lines l mid = is_ready_lives (fiber_at l.fibers g) mid.moves.0 mid.moves.1
 
 -- ## More were made
@@ -106,7 +106,7 @@ untouched_itself l = record {
   lines = refl;
 }
 
-module _ (held : ℕ → List Scope) (lines : ℕ) (l k : DomainState) (sound : IsSoundWith held lines l) (same : Untouched l k) where
+module _ (held : ℕ → List Entered) (lines : ℕ) (l k : DomainState) (sound : IsSoundWith held lines l) (same : Untouched l k) where
   same_fiber : (h : ℕ) → fiber_at k.fibers h ≡ fiber_at l.fibers h
   same_fiber h = ap (λ fs. fiber_at fs h) same.fibers
 
@@ -166,7 +166,7 @@ module _ (held : ℕ → List Scope) (lines : ℕ) (l k : DomainState) (sound : 
         counted = counted_same;
       })
 
-pub mid_untouched : (g : ℕ) (held : ℕ → List Scope) (lines : ℕ) (l k : DomainState) → IsMid g held lines l → Untouched l k → IsMid g held lines k
+pub mid_untouched : (g : ℕ) (held : ℕ → List Entered) (lines : ℕ) (l k : DomainState) → IsMid g held lines l → Untouched l k → IsMid g held lines k
 mid_untouched g held lines l k mid same = record {
   sound = untouched_sound held lines l k mid.sound same;
   moves = (mid.moves.0, ap (λ fs. (fiber_at fs g).standing) same.fibers ∙ mid.moves.1);
@@ -176,7 +176,7 @@ mid_untouched g held lines l k mid same = record {
 
 -- ## The same scopes, said otherwise
 
-pub reheld : (held new : ℕ → List Scope) (lines more : ℕ) (l : DomainState) → lines ≤ more → ((h : ℕ) → has_ended (fiber_at l.fibers h) ≡ false → new h ≡ held h)
+pub reheld : (held new : ℕ → List Entered) (lines more : ℕ) (l : DomainState) → lines ≤ more → ((h : ℕ) → has_ended (fiber_at l.fibers h) ≡ false → new h ≡ held h)
     → IsSoundWith held lines l → IsSoundWith new more l
 reheld held new lines more l later same sound = record {
   owes = sound.owes;
@@ -242,7 +242,7 @@ lined lines l stamp later sound = (
 
 -- ## A fiber stands otherwise
 
-module _ (held : ℕ → List Scope) (lines : ℕ) (l : DomainState) (sound : IsSoundWith held lines l) (g : ℕ) (standing : Standing) (numbers : List ℕ)
+module _ (held : ℕ → List Entered) (lines : ℕ) (l : DomainState) (sound : IsSoundWith held lines l) (g : ℕ) (standing : Standing) (numbers : List ℕ)
     (lives : has_ended (fiber_at l.fibers g) ≡ false) (on : standing_ended standing ≡ false) (built : IsBuiltStanding standing)
     (distinct : AreDistinct numbers) (rest : (h : ℕ) → h ≢ g → Contains numbers h → Contains l.ready h)
     (itself : Contains numbers g → (next : Next) × (standing ≡ Ready next)) where
@@ -309,7 +309,7 @@ module _ (held : ℕ → List Scope) (lines : ℕ) (l : DomainState) (sound : Is
 
 -- ## The move comes to its end
 
-module _ (g : ℕ) (held : ℕ → List Scope) (lines : ℕ) (l : DomainState) (mid : IsMid g held lines l) (stamp : ℕ) (later : lines ≤ l.lines + 1) where
+module _ (g : ℕ) (held : ℕ → List Entered) (lines : ℕ) (l : DomainState) (mid : IsMid g held lines l) (stamp : ℕ) (later : lines ≤ l.lines + 1) where
   caller_lives : has_ended (fiber_at l.fibers g) ≡ false
   caller_lives = mid_lives g held lines l mid
 

@@ -14,7 +14,7 @@ use Rattle.spec_machine.specs.Domain.{Role, OfBody, OfJob, OfSwitch, OfGroup, Of
 use Rattle.spec_machine.specs.Mock.{opening_domain}
 use Rattle.law_domain.specs.Sound.BuiltForms.{IsBuiltBlock}
 use Rattle.law_domain.specs.Sound.Laws.{OpensSound, body_of}
-use Rattle.law_domain.specs.Sound.Scopes.{Scope, Nests, ScopeAt, base_of, context_in, scopes_of}
+use Rattle.law_domain.specs.Sound.Scopes.{Entered, Nests, ScopeAt, base_of, context_in, scopes_of}
 use Rattle.law_domain.specs.Sound.SoundStates.{IsSoundFiber, IsSoundState, attached_to}
 use Rattle.law_domain.proofs.Sound.BuiltSettle.{items_built}
 use Rattle.law_domain.proofs.Sound.Lists.{all_none}
@@ -59,7 +59,7 @@ module _ (number : ℕ) (texts : List (List ℕ)) (block : Block) (built : IsBui
   none_gathers n zero role lives = true≢false (sym (ap is_of_some_group role))
   none_gathers n (suc g) role lives = true≢false lives
 
-  none_in : (scope : Scope) (g i : ℕ) → ScopeAt (scopes_of opening) opening scope g i → ⊥
+  none_in : (scope : Entered) (g i : ℕ) → ScopeAt (scopes_of opening) opening scope g i → ⊥
   none_in scope zero i it = none-some _ it.there
   none_in scope (suc g) i it = true≢false it.lives
 
@@ -69,7 +69,7 @@ module _ (number : ℕ) (texts : List (List ℕ)) (block : Block) (built : IsBui
   nests_all (suc g) lives = absurd (true≢false lives)
 
   owned_all : (c : ℕ) → is_live opening.contexts c ≡ true
-      → (c ≡ 0) ⊎ ((scope : Scope) × (g : ℕ) × (i : ℕ) × ScopeAt (scopes_of opening) opening scope g i × (context_in opening scope ≡ c))
+      → (c ≡ 0) ⊎ ((scope : Entered) × (g : ℕ) × (i : ℕ) × ScopeAt (scopes_of opening) opening scope g i × (context_in opening scope ≡ c))
   owned_all zero live = inl refl
   owned_all (suc c) live = absurd (true≢false (sym live))
 

@@ -6,13 +6,13 @@ use Rattle.spec_parts.specs.Contexts.{context_at, is_live}
 use Rattle.spec_parts.specs.Groups.{group_at}
 use Rattle.spec_parts.specs.Switches.{switch_at}
 use Rattle.spec_machine.specs.Domain.{Role, OfBody, OfJob, OfSwitch, OfGroup, OfWriter, DomainState, fiber_at, has_ended}
-use Rattle.law_domain.specs.Sound.Scopes.{Scope, InContext, InSwitch, InGroup, Nests, ScopeAt, IsEntered, IsUnfinished, base_of, context_in}
+use Rattle.law_domain.specs.Sound.Scopes.{Entered, InContext, InSwitch, InGroup, Nests, ScopeAt, IsEntered, IsUnfinished, base_of, context_in}
 use Rattle.law_domain.specs.Sound.SoundStates.{IsScoped, branches_of, own_branches}
 use Rattle.law_domain.proofs.Sound.ByNumber.{same_or_other}
 use Rattle.law_domain.proofs.Sound.Into.{SamePeople, same_branches}
 
 -- what is there then
-pub record GoesOut (old new : ℕ → List Scope) (l k : DomainState) (g : ℕ) (scope : Scope) : Type 0 where
+pub record GoesOut (old new : ℕ → List Entered) (l k : DomainState) (g : ℕ) (scope : Entered) : Type 0 where
   pub lives : has_ended (fiber_at l.fibers g) ≡ false
   pub people : SamePeople l k
   pub contexts : (h : ℕ) → h ≢ g → (fiber_at k.fibers h).context ≡ (fiber_at l.fibers h).context
@@ -32,7 +32,7 @@ pub record GoesOut (old new : ℕ → List Scope) (l k : DomainState) (g : ℕ) 
   -- and no branch is left of the group that it goes out of
   pub nobody : (n : ℕ) (own : Bool) (h : ℕ) → scope ≡ InGroup n own → (fiber_at l.fibers h).role ≡ OfGroup n → has_ended (fiber_at l.fibers h) ≡ false → ⊥
 
-module _ (old new : ℕ → List Scope) (l k : DomainState) (g : ℕ) (scope : Scope)
+module _ (old new : ℕ → List Entered) (l k : DomainState) (g : ℕ) (scope : Entered)
     (scoped : IsScoped old l) (out : GoesOut old new l k g scope) where
   lived : (h : ℕ) → has_ended (fiber_at k.fibers h) ≡ false → has_ended (fiber_at l.fibers h) ≡ false
   lived h lives = sym (out.people.ended h) ∙ lives
@@ -48,7 +48,7 @@ module _ (old new : ℕ → List Scope) (l k : DomainState) (g : ℕ) (scope : S
 
   -- ## How scopes lie
 
-  same_context : (it : Scope) → context_in k it ≡ context_in l it
+  same_context : (it : Entered) → context_in k it ≡ context_in l it
   same_context (InContext x) = refl
   same_context (InSwitch n) = out.switches n
   same_context (InGroup n own) = out.group_contexts n
@@ -60,7 +60,7 @@ module _ (old new : ℕ → List Scope) (l k : DomainState) (g : ℕ) (scope : S
   same_base (OfGroup n) = sym (out.group_contexts n)
   same_base (OfWriter writer) = refl
 
-  nests_on : (base : ℕ) (held : List Scope) (context : ℕ) → Nests l base held context → Nests k base held context
+  nests_on : (base : ℕ) (held : List Entered) (context : ℕ) → Nests l base held context → Nests k base held context
   nests_on base [] context it = it
   nests_on base (one ∷ held) context it = (same_context one ∙ it.0, it.1, out.parents context ∙ it.2, nests_on base held it.1 it.3)
 
@@ -89,52 +89,52 @@ module _ (old new : ℕ → List Scope) (l k : DomainState) (g : ℕ) (scope : S
 
   -- ## Where scopes are
 
-  data WasAt (it : Scope) (h i : ℕ) : Type 0 where
+  data WasAt (it : Entered) (h i : ℕ) : Type 0 where
     Deeper : h ≡ g → ScopeAt old l it h (suc i) → WasAt it h i
     Elsewhere : h ≢ g → ScopeAt old l it h i → WasAt it h i
 
   held_by : (h : ℕ) → h ≡ g → old h ≡ scope ∷ new h
   held_by h e = subst (λ (m : ℕ). old m ≡ scope ∷ new m) (sym e) out.has
 
-  was_at : (it : Scope) (h i : ℕ) → ScopeAt new k it h i → WasAt it h i
+  was_at : (it : Entered) (h i : ℕ) → ScopeAt new k it h i → WasAt it h i
   was_at it h i at = elim (same_or_other h g) as (λ _. WasAt it h i) [
     | inl e ↦ Deeper e (record { lives = lived h at.lives; there = ap (λ xs. slice_get xs (suc i)) (held_by h e) ∙ at.there })
     | inr other ↦ Elsewhere other (record { lives = lived h at.lives; there = ap (λ xs. slice_get xs i) (sym (out.others h other)) ∙ at.there })
   ]
 
-  once : (one other : Scope) (h m i j : ℕ) → WasAt one h i → WasAt other m j → context_in l one ≡ context_in l other → (h ≡ m) × (i ≡ j)
+  once : (one other : Entered) (h m i j : ℕ) → WasAt one h i → WasAt other m j → context_in l one ≡ context_in l other → (h ≡ m) × (i ≡ j)
   once one other h m i j (Deeper a it) (Deeper b that) same = (let both = scoped.once one other h m (suc i) (suc j) it that same in let places = both.1 in (both.0, omega (arith, places)))
   once one other h m i j (Deeper a it) (Elsewhere away that) same = (let both = scoped.once one other h m (suc i) j it that same in absurd (away (sym both.0 ∙ a)))
   once one other h m i j (Elsewhere away it) (Deeper b that) same = (let both = scoped.once one other h m i (suc j) it that same in absurd (away (both.0 ∙ b)))
   once one other h m i j (Elsewhere away it) (Elsewhere far that) same = scoped.once one other h m i j it that same
 
   -- none of them has the context that has ended
-  not_over : (it : Scope) (h i : ℕ) → WasAt it h i → context_in l it ≢ context_in l scope
+  not_over : (it : Entered) (h i : ℕ) → WasAt it h i → context_in l it ≢ context_in l scope
   not_over it h i (Deeper a at) same = (let both = scoped.once it scope h g (suc i) 0 at here same in let places = both.1 in omega (arith, places))
   not_over it h i (Elsewhere away at) same = (let both = scoped.once it scope h g i 0 at here same in away both.0)
 
-  was_entered_by : (it : Scope) (h i : ℕ) → WasAt it h i → IsEntered l it
+  was_entered_by : (it : Entered) (h i : ℕ) → WasAt it h i → IsEntered l it
   was_entered_by it h i (Deeper a at) = scoped.entered it h (suc i) at
   was_entered_by it h i (Elsewhere away at) = scoped.entered it h i at
 
-  entered_on : (it : Scope) → context_in l it ≢ context_in l scope → IsEntered l it → IsEntered k it
+  entered_on : (it : Entered) → context_in l it ≢ context_in l scope → IsEntered l it → IsEntered k it
   entered_on it other was = record {
     low = subst (λ (x : ℕ). 0 < x) (sym (same_context it)) was.low;
     live = ap (is_live k.contexts) (same_context it) ∙ (out.live (context_in l it) other ∙ was.live);
     unfinished = unfinished_on it other was.unfinished;
   } where
-    unfinished_on : (it : Scope) → context_in l it ≢ context_in l scope → IsUnfinished l it → IsUnfinished k it
+    unfinished_on : (it : Entered) → context_in l it ≢ context_in l scope → IsUnfinished l it → IsUnfinished k it
     unfinished_on (InContext x) other is = tt
     unfinished_on (InSwitch n) other is = out.stays_open n (λ e. other (ap (context_in l) (sym e))) ∙ is
     unfinished_on (InGroup n own) other is = tt
 
   -- it is still there, or it is the one that was gone out of
-  is_at : (it : Scope) (h i : ℕ) → ScopeAt old l it h i → ((m : ℕ) × (j : ℕ) × ScopeAt new k it m j) ⊎ (scope ≡ it)
+  is_at : (it : Entered) (h i : ℕ) → ScopeAt old l it h i → ((m : ℕ) × (j : ℕ) × ScopeAt new k it m j) ⊎ (scope ≡ it)
   is_at it h i at = elim (same_or_other h g) as (λ _. ((m : ℕ) × (j : ℕ) × ScopeAt new k it m j) ⊎ (scope ≡ it)) [
     | inl e ↦ deeper it h i at.lives (ap (λ xs. slice_get xs i) (sym (held_by h e)) ∙ at.there)
     | inr other ↦ inl (h, i, record { lives = lives_on h at.lives; there = ap (λ xs. slice_get xs i) (out.others h other) ∙ at.there })
   ] where
-    deeper : (it : Scope) (h i : ℕ) → has_ended (fiber_at l.fibers h) ≡ false → slice_get (scope ∷ new h) i ≡ Some it
+    deeper : (it : Entered) (h i : ℕ) → has_ended (fiber_at l.fibers h) ≡ false → slice_get (scope ∷ new h) i ≡ Some it
         → ((m : ℕ) × (j : ℕ) × ScopeAt new k it m j) ⊎ (scope ≡ it)
     deeper it h zero lives there = inr (same_Some _ _ there)
     deeper it h (suc i) lives there = inl (h, i, record { lives = lives_on h lives; there = there })
@@ -164,12 +164,12 @@ module _ (old new : ℕ → List Scope) (l k : DomainState) (g : ℕ) (scope : S
   left_was n own h i (Deeper a at) = scoped.left n own h (suc i) at
   left_was n own h i (Elsewhere away at) = scoped.left n own h i at
 
-  owned_then : (x : ℕ) → is_live k.contexts x ≡ true → (x ≡ 0) ⊎ ((it : Scope) × (h : ℕ) × (i : ℕ) × ScopeAt new k it h i × (context_in k it ≡ x))
+  owned_then : (x : ℕ) → is_live k.contexts x ≡ true → (x ≡ 0) ⊎ ((it : Entered) × (h : ℕ) × (i : ℕ) × ScopeAt new k it h i × (context_in k it ≡ x))
   owned_then x live = (
       let other : x ≢ context_in l scope = λ e. true≢false (sym live ∙ (ap (is_live k.contexts) e ∙ out.over)) in
-      elim (scoped.owned x (sym (out.live x other) ∙ live)) as (λ _. (x ≡ 0) ⊎ ((it : Scope) × (h : ℕ) × (i : ℕ) × ScopeAt new k it h i × (context_in k it ≡ x))) [
+      elim (scoped.owned x (sym (out.live x other) ∙ live)) as (λ _. (x ≡ 0) ⊎ ((it : Entered) × (h : ℕ) × (i : ℕ) × ScopeAt new k it h i × (context_in k it ≡ x))) [
         | inl e ↦ inl e
-        | inr it ↦ elim (is_at it.0 it.1 it.2 it.3) as (λ _. (x ≡ 0) ⊎ ((it : Scope) × (h : ℕ) × (i : ℕ) × ScopeAt new k it h i × (context_in k it ≡ x))) [
+        | inr it ↦ elim (is_at it.0 it.1 it.2 it.3) as (λ _. (x ≡ 0) ⊎ ((it : Entered) × (h : ℕ) × (i : ℕ) × ScopeAt new k it h i × (context_in k it ≡ x))) [
           | inl on ↦ inr (it.0, on.0, on.1, on.2, same_context it.0 ∙ it.4)
           | inr e ↦ absurd (other (sym it.4 ∙ ap (context_in l) (sym e)))
         ]

@@ -3,32 +3,32 @@ use Rattle.std.proofs.Common.{◌≡◌, ◌≢◌, ℕ, zero, suc, ◌<◌, Boo
 use Rattle.spec_parts.specs.Contexts.{Context, is_live}
 use Rattle.spec_parts.specs.Groups.{Group, group_at}
 use Rattle.spec_parts.specs.Switches.{Switch, switch_at}
-use Rattle.law_domain.specs.Sound.Scopes.{Scope, InContext, InSwitch, InGroup}
+use Rattle.law_domain.specs.Sound.Scopes.{Entered, InContext, InSwitch, InGroup}
 
-abbrev pub with_held : (g : ℕ) → List Scope → (ℕ → List Scope) → ℕ → List Scope
+abbrev pub with_held : (g : ℕ) → List Entered → (ℕ → List Entered) → ℕ → List Entered
 with_held g these held h = cond (h == g) these (held h)
 
-pub held_here : (g : ℕ) (these : List Scope) (held : ℕ → List Scope) → with_held g these held g ≡ these
+pub held_here : (g : ℕ) (these : List Entered) (held : ℕ → List Entered) → with_held g these held g ≡ these
 held_here g these held = ap (λ b. cond b these (held g)) (eq-eqb g g refl)
 
-pub held_elsewhere : (g : ℕ) (these : List Scope) (held : ℕ → List Scope) (h : ℕ) → h ≢ g → with_held g these held h ≡ held h
+pub held_elsewhere : (g : ℕ) (these : List Entered) (held : ℕ → List Entered) (h : ℕ) → h ≢ g → with_held g these held h ≡ held h
 held_elsewhere g these held h other = ap (λ b. cond b these (held h)) (ne_eqb h g other)
 
 -- ## Scopes of one kind are none of another
 
-abbrev is_switch : Scope → Bool
+abbrev is_switch : Entered → Bool
 is_switch scope = elim scope [ InContext c ↦ false | InSwitch n ↦ true | InGroup n own ↦ false ]
 
-abbrev is_group : Scope → Bool
+abbrev is_group : Entered → Bool
 is_group scope = elim scope [ InContext c ↦ false | InSwitch n ↦ false | InGroup n own ↦ true ]
 
-abbrev pub group_in : Scope → ℕ
+abbrev pub group_in : Entered → ℕ
 group_in scope = elim scope [ InContext c ↦ 0 | InSwitch n ↦ 0 | InGroup n own ↦ n ]
 
-abbrev pub own_in : Scope → Bool
+abbrev pub own_in : Entered → Bool
 own_in scope = elim scope [ InContext c ↦ false | InSwitch n ↦ false | InGroup n own ↦ own ]
 
-abbrev switch_in : Scope → ℕ
+abbrev switch_in : Entered → ℕ
 switch_in scope = elim scope [ InContext c ↦ 0 | InSwitch n ↦ n | InGroup n own ↦ 0 ]
 
 pub context_no_switch : (c n : ℕ) → InContext c ≡ InSwitch n → ⊥

@@ -6,31 +6,31 @@ use Rattle.spec_parts.specs.Contexts.{context_at, is_live}
 use Rattle.spec_parts.specs.Groups.{group_at}
 use Rattle.spec_parts.specs.Switches.{switch_at}
 use Rattle.spec_machine.specs.Domain.{Role, OfBody, OfJob, OfSwitch, OfGroup, OfWriter, DomainState, fiber_at, has_ended}
-use Rattle.law_domain.specs.Sound.Scopes.{Scope, InContext, InSwitch, InGroup, Nests, ScopeAt, IsEntered, IsUnfinished, base_of, context_in}
+use Rattle.law_domain.specs.Sound.Scopes.{Entered, InContext, InSwitch, InGroup, Nests, ScopeAt, IsEntered, IsUnfinished, base_of, context_in}
 use Rattle.law_domain.specs.Sound.SoundStates.{IsScoped, branches_of}
 use Rattle.law_domain.proofs.Sound.ByNumber.{same_or_other}
 
 -- ## What is the same
 
 -- a fiber lived, in these scopes
-pub record StaysIn (old new : ℕ → List Scope) (l k : DomainState) (h : ℕ) : Type 0 where
+pub record StaysIn (old new : ℕ → List Entered) (l k : DomainState) (h : ℕ) : Type 0 where
   pub lived : has_ended (fiber_at l.fibers h) ≡ false
   pub role : (fiber_at k.fibers h).role ≡ (fiber_at l.fibers h).role
   pub context : (fiber_at k.fibers h).context ≡ (fiber_at l.fibers h).context
   pub has : new h ≡ old h
 
 -- or it was made, and is in none yet
-pub record IsNew (new : ℕ → List Scope) (k : DomainState) (h : ℕ) : Type 0 where
+pub record IsNew (new : ℕ → List Entered) (k : DomainState) (h : ℕ) : Type 0 where
   pub none : new h ≡ []
   pub begins : (fiber_at k.fibers h).context ≡ base_of k (fiber_at k.fibers h).role
   pub gathers : (n : ℕ) → (fiber_at k.fibers h).role ≡ OfGroup n → (own : Bool) × (g : ℕ) × (i : ℕ) × ScopeAt new k (InGroup n own) g i
 
 -- who lived lives on
-pub record LivesOn (old new : ℕ → List Scope) (k : DomainState) (h : ℕ) : Type 0 where
+pub record LivesOn (old new : ℕ → List Entered) (k : DomainState) (h : ℕ) : Type 0 where
   pub lives : has_ended (fiber_at k.fibers h) ≡ false
   pub has : new h ≡ old h
 
-pub record ScopesStay (old new : ℕ → List Scope) (l k : DomainState) : Type 0 where
+pub record ScopesStay (old new : ℕ → List Entered) (l k : DomainState) : Type 0 where
   pub fibers : (h : ℕ) → has_ended (fiber_at k.fibers h) ≡ false → StaysIn old new l k h ⊎ IsNew new k h
   pub stay : (h : ℕ) → has_ended (fiber_at l.fibers h) ≡ false → LivesOn old new k h ⊎ (old h ≡ [])
   pub contexts : (n : ℕ) → (switch_at k.switches n).context ≡ (switch_at l.switches n).context
@@ -44,8 +44,8 @@ pub record ScopesStay (old new : ℕ → List Scope) (l k : DomainState) : Type 
 
 -- ## That they are sound
 
-module _ (old new : ℕ → List Scope) (l k : DomainState) (scoped : IsScoped old l) (stays : ScopesStay old new l k) where
-  same_context : (scope : Scope) → context_in k scope ≡ context_in l scope
+module _ (old new : ℕ → List Entered) (l k : DomainState) (scoped : IsScoped old l) (stays : ScopesStay old new l k) where
+  same_context : (scope : Entered) → context_in k scope ≡ context_in l scope
   same_context (InContext c) = refl
   same_context (InSwitch n) = stays.contexts n
   same_context (InGroup n own) = stays.group_contexts n
@@ -57,17 +57,17 @@ module _ (old new : ℕ → List Scope) (l k : DomainState) (scoped : IsScoped o
   same_base (OfGroup n) = sym (stays.group_contexts n)
   same_base (OfWriter writer) = refl
 
-  nests_on : (base : ℕ) (held : List Scope) (context : ℕ) → Nests l base held context → Nests k base held context
+  nests_on : (base : ℕ) (held : List Entered) (context : ℕ) → Nests l base held context → Nests k base held context
   nests_on base [] context it = it
   nests_on base (scope ∷ held) context it = (same_context scope ∙ it.0, it.1, stays.parents context ∙ it.2, nests_on base held it.1 it.3)
 
-  was_at : (scope : Scope) (h i : ℕ) → ScopeAt new k scope h i → ScopeAt old l scope h i
+  was_at : (scope : Entered) (h i : ℕ) → ScopeAt new k scope h i → ScopeAt old l scope h i
   was_at scope h i it = elim (stays.fibers h it.lives) as (λ _. ScopeAt old l scope h i) [
     | inl on ↦ record { lives = on.lived; there = ap (λ xs. slice_get xs i) (sym on.has) ∙ it.there }
     | inr made ↦ absurd (none-some _ (ap (λ xs. slice_get xs i) (sym made.none) ∙ it.there))
   ]
 
-  is_at : (scope : Scope) (h i : ℕ) → ScopeAt old l scope h i → ScopeAt new k scope h i
+  is_at : (scope : Entered) (h i : ℕ) → ScopeAt old l scope h i → ScopeAt new k scope h i
   is_at scope h i it = elim (stays.stay h it.lives) as (λ _. ScopeAt new k scope h i) [
     | inl on ↦ record { lives = on.lives; there = ap (λ xs. slice_get xs i) on.has ∙ it.there }
     | inr none ↦ absurd (none-some _ (ap (λ xs. slice_get xs i) (sym none) ∙ it.there))
@@ -83,22 +83,22 @@ module _ (old new : ℕ → List Scope) (l k : DomainState) (scoped : IsScoped o
     | inr made ↦ subst (λ xs. Nests k (base_of k (fiber_at k.fibers h).role) xs (fiber_at k.fibers h).context) (sym made.none) made.begins
   ]
 
-  unfinished_then : (scope : Scope) → IsUnfinished l scope → IsUnfinished k scope
+  unfinished_then : (scope : Entered) → IsUnfinished l scope → IsUnfinished k scope
   unfinished_then (InContext c) is = tt
   unfinished_then (InSwitch n) is = stays.finished n ∙ is
   unfinished_then (InGroup n own) is = tt
 
-  entered_then : (scope : Scope) → IsEntered l scope → IsEntered k scope
+  entered_then : (scope : Entered) → IsEntered l scope → IsEntered k scope
   entered_then scope was = record {
     low = subst (λ (c : ℕ). 0 < c) (sym (same_context scope)) was.low;
     live = ap (is_live k.contexts) (same_context scope) ∙ (stays.live (context_in l scope) was.low ∙ was.live);
     unfinished = unfinished_then scope was.unfinished;
   }
 
-  owned_then : (c : ℕ) → is_live k.contexts c ≡ true → (c ≡ 0) ⊎ ((scope : Scope) × (g : ℕ) × (i : ℕ) × ScopeAt new k scope g i × (context_in k scope ≡ c))
-  owned_then c live = elim (same_or_other c 0) as (λ _. (c ≡ 0) ⊎ ((scope : Scope) × (g : ℕ) × (i : ℕ) × ScopeAt new k scope g i × (context_in k scope ≡ c))) [
+  owned_then : (c : ℕ) → is_live k.contexts c ≡ true → (c ≡ 0) ⊎ ((scope : Entered) × (g : ℕ) × (i : ℕ) × ScopeAt new k scope g i × (context_in k scope ≡ c))
+  owned_then c live = elim (same_or_other c 0) as (λ _. (c ≡ 0) ⊎ ((scope : Entered) × (g : ℕ) × (i : ℕ) × ScopeAt new k scope g i × (context_in k scope ≡ c))) [
     | inl e ↦ inl e
-    | inr other ↦ elim (scoped.owned c (sym (stays.live c (omega (arith, other))) ∙ live)) as (λ _. (c ≡ 0) ⊎ ((scope : Scope) × (g : ℕ) × (i : ℕ) × ScopeAt new k scope g i × (context_in k scope ≡ c))) [
+    | inr other ↦ elim (scoped.owned c (sym (stays.live c (omega (arith, other))) ∙ live)) as (λ _. (c ≡ 0) ⊎ ((scope : Entered) × (g : ℕ) × (i : ℕ) × ScopeAt new k scope g i × (context_in k scope ≡ c))) [
       | inl e ↦ inl e
       | inr it ↦ inr (it.0, it.1, it.2, is_at it.0 it.1 it.2 it.3, same_context it.0 ∙ it.4)
     ]

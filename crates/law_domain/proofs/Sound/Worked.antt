@@ -25,7 +25,7 @@ use Rattle.spec_machine.specs.Steps.{waiting_from}
 use Rattle.law_domain.specs.Sound.BuiltForms.{IsBuilt, IsBuiltBlock, AreBuilt, HasBuiltForms, AreBuiltWork, IsBuiltCall}
 use Rattle.law_domain.specs.Sound.Conditions.{Calls, HasSoundSwitches}
 use Rattle.law_domain.specs.Sound.Laws.{body_of, IsLast}
-use Rattle.law_domain.specs.Sound.Scopes.{Scope, InSwitch, InGroup, called_scope, context_in, is_end, scopes_in, scopes_of}
+use Rattle.law_domain.specs.Sound.Scopes.{Entered, InSwitch, InGroup, called_scope, context_in, is_end, scopes_in, scopes_of}
 use Rattle.law_domain.specs.Sound.SoundStates.{IsSoundState, attached_to}
 use Rattle.law_domain.proofs.Sound.BuiltSettle.{built_settle}
 use Rattle.law_domain.proofs.Sound.Conditions.{moves_may_call, switches_are_sound}
@@ -117,7 +117,7 @@ unfolding after prepared own_call value_of values_of answered statement waiting_
 nobody_at true = refl
 nobody_at false = refl
 
-abbrev number_in : Scope → ℕ
+abbrev number_in : Entered → ℕ
 number_in (InSwitch n) = n
 number_in scope = 0
 

@@ -11,13 +11,13 @@ use Rattle.spec_fiber.specs.Settling.{Settled}
 use Rattle.spec_machine.specs.Domain.{Role, OfBody, OfSwitch, OfGroup, Next, Ready, DomainState, fiber_at, has_ended, live_fibers, most_fibers, off_for}
 use Rattle.spec_machine.specs.Preparing.{next_call, called_by, carry_of, prepared}
 use Rattle.law_domain.specs.Sound.BuiltForms.{AreBuiltWork, IsBuiltCall}
-use Rattle.law_domain.specs.Sound.Scopes.{Scope, InContext, InSwitch, InGroup, ScopeAt, IsEntered, context_in, scopes_of}
+use Rattle.law_domain.specs.Sound.Scopes.{Entered, InContext, InSwitch, InGroup, ScopeAt, IsEntered, context_in, scopes_of}
 use Rattle.law_domain.specs.Sound.SoundStates.{IsBuiltNext, IsSoundState, attached_to, own_branches}
 
 -- ## The ends of scopes
 
 -- the fiber is in this scope, innermost, and runs in its context
-pub record AtEnd (l : DomainState) (g : ℕ) (scope : Scope) : Type 0 where
+pub record AtEnd (l : DomainState) (g : ℕ) (scope : Entered) : Type 0 where
   pub innermost : ScopeAt (scopes_of l) l scope g 0
   pub entered : IsEntered l scope
   pub runs : (fiber_at l.fibers g).context ≡ context_in l scope

@@ -15,7 +15,7 @@ use Rattle.spec_machine.specs.Labels.{Inner}
 use Rattle.spec_machine.specs.Mock.{opening_domain}
 use Rattle.spec_machine.specs.Runs.{Noted, DomainMoves}
 use Rattle.law_domain.specs.Sound.BuiltForms.{AreBuiltWork, HasBuiltForms, IsBuiltCall}
-use Rattle.law_domain.specs.Sound.Scopes.{Scope, InSwitch, InGroup, ScopeAt, called_scope, context_in, is_end, scopes_in, scopes_of}
+use Rattle.law_domain.specs.Sound.Scopes.{Entered, InSwitch, InGroup, ScopeAt, called_scope, context_in, is_end, scopes_in, scopes_of}
 use Rattle.law_domain.specs.Sound.SoundStates.{IsSoundState, attached_to}
 
 -- ## Silent statements
@@ -49,14 +49,14 @@ KeepsSound = (script : Script) (l k : DomainState) (x : Noted) → HasBuiltForms
 
 -- nothing is behind a scope that a fiber goes out of: it is the innermost one of the fiber, and nobody is attached to it if it is a switch, and no branch is left of
 -- it if it is a group
-pub record IsLast (l : DomainState) (scope : Scope) (g : ℕ) : Type 0 where
+pub record IsLast (l : DomainState) (scope : Entered) (g : ℕ) : Type 0 where
   pub innermost : ScopeAt (scopes_of l) l scope g 0
   pub nobody : (n : ℕ) → scope ≡ InSwitch n → (daemon : Bool) → attached_to daemon (switch_at l.switches n) ≡ []
   pub no_branch : (n : ℕ) (own : Bool) (h : ℕ) → scope ≡ InGroup n own → (fiber_at l.fibers h).role ≡ OfGroup n → has_ended (fiber_at l.fibers h) ≡ false → ⊥
 
 -- then no live context lies in its context, and no other fiber runs there
 abbrev pub ScopesEndAlone : Type 0
-ScopesEndAlone = (l : DomainState) (scope : Scope) (g : ℕ) → IsSoundState l → IsLast l scope g
+ScopesEndAlone = (l : DomainState) (scope : Entered) (g : ℕ) → IsSoundState l → IsLast l scope g
     → ((x : ℕ) → is_live l.contexts x ≡ true → (context_at l.contexts x).parent ≢ Some (context_in l scope))
     × ((h : ℕ) → has_ended (fiber_at l.fibers h) ≡ false → (fiber_at l.fibers h).context ≡ context_in l scope → h ≡ g)
 

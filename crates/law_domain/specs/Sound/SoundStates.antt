@@ -15,7 +15,7 @@ use Rattle.spec_fiber.specs.Asks.{Ask}
 use Rattle.spec_fiber.specs.Work.{Work}
 use Rattle.spec_machine.specs.Domain.{Role, OfBody, OfJob, OfSwitch, OfGroup, OfWriter, Next, GoesOn, LooksUp, FindsOff, CallsAgain, Wait, ForCancel, ForOthers, Standing, Ready, Parked, Ended, Duty, Strike, Fiber, DomainState, fiber_at, has_ended, live_fibers, most_fibers}
 use Rattle.law_domain.specs.Sound.BuiltForms.{AreBuiltWork}
-use Rattle.law_domain.specs.Sound.Scopes.{Scope, InSwitch, InGroup, Nests, ScopeAt, IsEntered, base_of, context_in, scopes_of}
+use Rattle.law_domain.specs.Sound.Scopes.{Entered, InSwitch, InGroup, Nests, ScopeAt, IsEntered, base_of, context_in, scopes_of}
 
 -- ## Fibers
 
@@ -84,18 +84,18 @@ branches_of n fibers = count_by (λ fiber. not (has_ended fiber) && is_of_group 
 abbrev pub own_branches : (own : Bool) → ℕ
 own_branches own = cond own 1 0
 
-pub record IsScoped (held : ℕ → List Scope) (l : DomainState) : Type 0 where
+pub record IsScoped (held : ℕ → List Entered) (l : DomainState) : Type 0 where
   pub nests : (g : ℕ) → has_ended (fiber_at l.fibers g) ≡ false → Nests l (base_of l (fiber_at l.fibers g).role) (held g) (fiber_at l.fibers g).context
-  pub entered : (scope : Scope) (g i : ℕ) → ScopeAt held l scope g i → IsEntered l scope
+  pub entered : (scope : Entered) (g i : ℕ) → ScopeAt held l scope g i → IsEntered l scope
   -- each has a context of its own, and is at one place alone
-  pub once : (one other : Scope) (g h i j : ℕ) → ScopeAt held l one g i → ScopeAt held l other h j → context_in l one ≡ context_in l other → (g ≡ h) × (i ≡ j)
+  pub once : (one other : Entered) (g h i j : ℕ) → ScopeAt held l one g i → ScopeAt held l other h j → context_in l one ≡ context_in l other → (g ≡ h) × (i ≡ j)
   -- a switch that isn't finished is entered, and so is a group of which a branch runs
   pub opened : (n : ℕ) → (switch_at l.switches n).finished ≡ false → (g : ℕ) × (i : ℕ) × ScopeAt held l (InSwitch n) g i
   pub gathered : (n g : ℕ) → (fiber_at l.fibers g).role ≡ OfGroup n → has_ended (fiber_at l.fibers g) ≡ false
       → (own : Bool) × (h : ℕ) × (i : ℕ) × ScopeAt held l (InGroup n own) h i
   pub left : (n : ℕ) (own : Bool) (g i : ℕ) → ScopeAt held l (InGroup n own) g i → (group_at l.groups n).left ≡ branches_of n l.fibers + own_branches own
   -- beside the contexts of scopes only that of the body is live, while the body is
-  pub owned : (c : ℕ) → is_live l.contexts c ≡ true → (c ≡ 0) ⊎ ((scope : Scope) × (g : ℕ) × (i : ℕ) × ScopeAt held l scope g i × (context_in l scope ≡ c))
+  pub owned : (c : ℕ) → is_live l.contexts c ≡ true → (c ≡ 0) ⊎ ((scope : Entered) × (g : ℕ) × (i : ℕ) × ScopeAt held l scope g i × (context_in l scope ≡ c))
   pub root : (context_at l.contexts 0).parent ≡ None
   pub body : is_live l.contexts 0 ≡ true → has_ended (fiber_at l.fibers 0) ≡ false
   pub rooted : has_ended (fiber_at l.fibers 0) ≡ false → is_live l.contexts 0 ≡ true
@@ -115,7 +115,7 @@ pub record IsCounted (lines : ℕ) (l : DomainState) : Type 0 where
   pub groups_made : length l.groups ≤ lines
 
 -- by what scopes each fiber has
-pub record IsSoundWith (held : ℕ → List Scope) (lines : ℕ) (l : DomainState) : Type 0 where
+pub record IsSoundWith (held : ℕ → List Entered) (lines : ℕ) (l : DomainState) : Type 0 where
   -- nothing but strikes is owed, and nobody sleeps
   pub owes : All IsStrike l.duties
   pub sleeps : l.timers.standing ≡ []
