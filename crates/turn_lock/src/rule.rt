@@ -14,7 +14,7 @@ use std::marker::PhantomData;
 pub(crate) struct Law<V>(PhantomData<V>);
 
 impl<V: Kept> TableRule<Option<V>, View<V::Entry>, u64> for Law<V> {
-    ghost holds = { Rule.Kept (λ x. V.stands x 0) };
+    ghost holds = { Rule.KeptTurns (λ x. V.stands x 0) };
 
     ghost first = { first_view };
 }

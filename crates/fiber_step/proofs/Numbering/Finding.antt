@@ -4,7 +4,7 @@ use Rattle.std.specs.Prelude.{find, All, AllPairs}
 use Rattle.std.specs.Option.{unwrap_or}
 use Rattle.std.proofs.lemmas.Bool.{eq-eqb, ne_eqb, eqb-true}
 use Rattle.std.proofs.lemmas.List.Elements.{All-nil, All-cons, All-weaker, Contains-get_or}
-use Rattle.std.proofs.lemmas.List.KeptFrames.{AllPairs-cons}
+use Rattle.std.proofs.lemmas.List.Kept.{AllPairs-cons}
 use Rattle.spec_script.specs.Scripts.{Script}
 use Rattle.spec_script.specs.Syntax.{Block, Begins, Done}
 use Rattle.script_code.specs.Numbered.{HasNumbers}
