@@ -6,7 +6,7 @@ use Rattle.std.specs.Prelude.{IsTrue}
 use Rattle.eio_value.specs.declared.plain.PathFault.TheVariants.{NotFound, NotDirectory}
 use Rattle.path_cap.specs.Nodes.{held_of}
 use Rattle.path_cap.specs.Leading.{to_file, to_link, by_link}
-use Rattle.path_cap.specs.declared.item.Held.{Held}
+use Rattle.path_cap.specs.declared.item.HeldNode.{HeldNode}
 
 -- the walk along components that goes on at a link as one does that follows so many
 walk_is : (links : ℕ) (tree : Tree) (follow : Bool) (place : Place) (names : List (List ℕ)) → walk links tree follow place names ≡ along tree follow (by_link links tree follow) place names
@@ -72,7 +72,7 @@ pub onward : (links : ℕ) (tree : Tree) (follow : Bool) (place : Place) (left n
 onward links tree follow place left names there whole so_far same goes = sym goes ∙ (ap (λ (ns : List (List ℕ)). walk links tree follow place ns) (sym same) ∙ so_far)
 
 -- what a look for a name found stands under it
-pub holds : (tree : Tree) (here at : ℕ) (name slice : List ℕ) (node known : Held) → Some (held_of node) ≡ held_by (directory_at tree at).entries slice → at ≡ here → slice ≡ name → node ≡ known → held_by (directory_at tree here).entries name ≡ Some (held_of known)
+pub holds : (tree : Tree) (here at : ℕ) (name slice : List ℕ) (node known : HeldNode) → Some (held_of node) ≡ held_by (directory_at tree at).entries slice → at ≡ here → slice ≡ name → node ≡ known → held_by (directory_at tree here).entries name ≡ Some (held_of known)
 holds tree here at name slice node known found same_at same_name same_node = cc
 
 pub holds_nothing : (tree : Tree) (here at : ℕ) (name slice : List ℕ) → None ≡ held_by (directory_at tree at).entries slice → at ≡ here → slice ≡ name → held_by (directory_at tree here).entries name ≡ None

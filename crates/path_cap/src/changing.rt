@@ -9,7 +9,7 @@ ghost use Rattle.path_cap.specs.Changes.{saving};
 ghost use Rattle.path_cap.specs.Faults.{Refuses};
 
 use crate::cap::{Cap, CapFault};
-use crate::item::Held;
+use crate::item::HeldNode;
 use crate::tree::DirTree;
 use crate::walk::{Leads, Place, resolve};
 use eio_value::{Bytes, PathFault};
@@ -57,7 +57,7 @@ impl DirTree {
             | Leads::ToLink(above, name)
             | Leads::ToNothing(above, name) => {
                 let content = Bytes::new(Vec::from_slice(alloc, content)?);
-                Ok(self.put(above, name, Held::File(content))?)
+                Ok(self.put(above, name, HeldNode::File(content))?)
             }
             Leads::Refused(fault) => Err(CapFault::Path(fault)),
         }
@@ -78,7 +78,7 @@ impl DirTree {
         match resolve(alloc, self, cap.0, path, false)? {
             Leads::ToNothing(above, name) => {
                 let content = Bytes::new(Vec::from_slice(alloc, content)?);
-                Ok(self.put(above, name, Held::File(content))?)
+                Ok(self.put(above, name, HeldNode::File(content))?)
             }
             Leads::Refused(fault) => Err(CapFault::Path(fault)),
             _ => Err(CapFault::Path(PathFault::AlreadyExists)),

@@ -5,7 +5,7 @@ ghost use Rattle.std.specs.Prelude.{◌≡◌, ◌==◌, length, [], true, false
 ghost use Rattle.spec_parts.specs.Directories.{held_by, with_entry, without_entry};
 ghost use Rattle.path_cap.specs.Nodes.{held_of};
 
-use crate::item::{Item, Held};
+use crate::item::{Item, HeldNode};
 use eio_value::NoMemory;
 use std::alloc::Global;
 use std::cmp::Ordering;
@@ -49,7 +49,7 @@ impl Directory {
     }
 
     /// What a name stands for.
-    pub fn held(&self, name: &[u8]) -> Option<&Held>
+    pub fn held(&self, name: &[u8]) -> Option<&HeldNode>
         ensures { option_map (λ node. held_of node.now) result ≡ held_by self.now.entries name.now }
     {
         let found = self.entries.iter().find(|item| item.name() == name)?;

@@ -7,7 +7,7 @@ use std::marker::Model;
 
 /// What a name stands for.
 #[derive(Drop)]
-pub enum Held {
+pub enum HeldNode {
     /// A file and its content.
     File(Bytes),
     /// A link and the path that it leads to.
@@ -20,7 +20,7 @@ pub enum Held {
 #[derive(Drop)]
 pub struct Item {
     name: Bytes,
-    node: Held,
+    node: HeldNode,
 }
 
 impl Model for Item {
@@ -36,7 +36,7 @@ impl Model for Item {
 impl Item {
     ghost use Rattle.path_cap.specs.Nodes.{held_of};
 
-    pub fn new(name: Bytes, node: Held) -> Item
+    pub fn new(name: Bytes, node: HeldNode) -> Item
         ensures { result ≡ record { name = name; held = held_of node } }
     {
         Item { name, node }
@@ -48,7 +48,7 @@ impl Item {
         self.name.as_slice()
     }
 
-    pub fn node(&self) -> &Held
+    pub fn node(&self) -> &HeldNode
         ensures { held_of result.now ≡ self.now.held }
     {
         &self.node

@@ -5,7 +5,7 @@ ghost use Rattle.eio_value.specs.Directory.{entry_count, item_count};
 ghost use Rattle.eio_value.specs.EntriesInside.{directory_of, item_of};
 ghost use Rattle.spec_parts.specs.Directories.{declared_tree, placed, placed_item};
 
-use crate::item::Held;
+use crate::item::HeldNode;
 use crate::tree::DirTree;
 use eio_value::{Bytes, Entry, NoMemory};
 use std::alloc::Global;
@@ -50,11 +50,11 @@ impl DirTree {
     {
         match entry {
             Entry::File(name, content) => {
-                let node = Held::File(copied(alloc, content)?);
+                let node = HeldNode::File(copied(alloc, content)?);
                 self.put(at, copied(alloc, name)?, node)
             }
             Entry::Link(name, target) => {
-                let node = Held::Link(copied(alloc, target)?);
+                let node = HeldNode::Link(copied(alloc, target)?);
                 self.put(at, copied(alloc, name)?, node)
             }
             Entry::Sub(name, inner) => {

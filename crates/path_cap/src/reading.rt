@@ -7,7 +7,7 @@ ghost use Rattle.path_cap.specs.Below.{IsBelow};
 ghost use Rattle.path_cap.specs.Faults.{Refuses};
 
 use crate::cap::{Cap, CapFault};
-use crate::item::Held;
+use crate::item::HeldNode;
 use crate::tree::DirTree;
 use crate::walk::{Leads, resolve};
 use eio_value::{NoMemory, PathFault};
@@ -78,7 +78,7 @@ impl DirTree {
         ensures { IfOk result (λ target. option_map (λ bytes. bytes.items) target ≡ model.link_target self.now cap.0 name.now) }
     {
         match self.held(cap.0, name) {
-            Some(Held::Link(target)) => Ok(Some(Vec::from_slice(alloc, target.as_slice())?)),
+            Some(HeldNode::Link(target)) => Ok(Some(Vec::from_slice(alloc, target.as_slice())?)),
             _ => Ok(None),
         }
     }

@@ -8,7 +8,7 @@ ghost use Rattle.path_cap.specs.Leading.{content_in};
 ghost use Rattle.path_cap.specs.Nodes.{held_of};
 
 use crate::directory::Directory;
-use crate::item::{Item, Held};
+use crate::item::{Item, HeldNode};
 use eio_value::{Bytes, NoMemory};
 use std::alloc::Global;
 use std::marker::Model;
@@ -70,7 +70,7 @@ impl DirTree {
     }
 
     /// What a name stands for in a directory.
-    pub(crate) fn held(&self, number: u32, name: &[u8]) -> Option<&Held>
+    pub(crate) fn held(&self, number: u32, name: &[u8]) -> Option<&HeldNode>
         ensures { option_map (λ node. held_of node.now) result ≡ held_by (directory_at self.now number).entries name.now }
     {
         self.directory(number)?.held(name)
@@ -81,7 +81,7 @@ impl DirTree {
         ensures { result.now ≡ content_in (held_by (directory_at self.now number).entries name.now) }
     {
         match self.held(number, name) {
-            Some(Held::File(content)) => content.as_slice(),
+            Some(HeldNode::File(content)) => content.as_slice(),
             _ => &[],
         }
     }
@@ -107,7 +107,7 @@ impl DirTree {
     }
 
     /// From now on a name stands for this in a directory.
-    pub(crate) fn put(&mut self, number: u32, name: Bytes, node: Held) -> Result<(), NoMemory>
+    pub(crate) fn put(&mut self, number: u32, name: Bytes, node: HeldNode) -> Result<(), NoMemory>
         ensures ok { OnOk result (self.new ≡ model.put number name (held_of node) self.old) }
         ensures err { OnErr result (self.new ≡ self.old) }
     {
@@ -131,7 +131,7 @@ impl DirTree {
     {
         let next = self.next_number();
         self.directories.push(Directory::new(alloc))?;
-        let made = self.put(number, name, Held::Inner(next));
+        let made = self.put(number, name, HeldNode::Inner(next));
         if made.is_err() {
             self.directories.pop();
         }

@@ -8,7 +8,7 @@ ghost use Rattle.spec_parts.specs.Walk as model;
 ghost use Rattle.path_cap.specs.Leading.{leads_of, by_link};
 
 use crate::components::{Components, is_absolute, is_up};
-use crate::item::Held;
+use crate::item::HeldNode;
 use crate::tree::DirTree;
 use eio_value::{Bytes, NoMemory, PathFault};
 use std::alloc::Global;
@@ -180,13 +180,13 @@ fn walk(
         }
         let is_last = left.is_empty();
         match tree.held(place.here(), name.as_slice()) {
-            Some(Held::Inner(directory)) => place.go_down(name, *directory)?,
-            Some(Held::Link(target)) if is_followed(follow, is_last) => {
+            Some(HeldNode::Inner(directory)) => place.go_down(name, *directory)?,
+            Some(HeldNode::Link(target)) if is_followed(follow, is_last) => {
                 return follow_link(alloc, tree, links, follow, place, target.as_slice(), left);
             }
-            Some(Held::Link(_)) => return Ok(Leads::ToLink(place.here(), name)),
-            Some(Held::File(_)) if is_last => return Ok(Leads::ToFile(place.here(), name)),
-            Some(Held::File(_)) => return Ok(Leads::Refused(PathFault::NotDirectory)),
+            Some(HeldNode::Link(_)) => return Ok(Leads::ToLink(place.here(), name)),
+            Some(HeldNode::File(_)) if is_last => return Ok(Leads::ToFile(place.here(), name)),
+            Some(HeldNode::File(_)) => return Ok(Leads::Refused(PathFault::NotDirectory)),
             None if is_last => return Ok(Leads::ToNothing(place.here(), name)),
             None => return Ok(Leads::Refused(PathFault::NotFound)),
         }
