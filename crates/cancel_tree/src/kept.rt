@@ -81,7 +81,11 @@ fn jump_from(kept: &Slab<KeptContext>, parent: ContextKey) -> Jump
 }
 
 /// The jump of a new context.
-pub(crate) fn jump_of(kept: &Slab<KeptContext>, parent: Option<ContextKey>, protected: bool) -> Option<Jump>
+pub(crate) fn jump_of(
+    kept: &Slab<KeptContext>,
+    parent: Option<ContextKey>,
+    protected: bool,
+) -> Option<Jump>
     ensures { IfSome result (JumpsUnder kept.now parent protected) }
 {
     match parent {

@@ -12,7 +12,7 @@ ghost use Rattle.std.specs.Result.{result_ok};
 ghost use Rattle.spec_parts.specs.Contexts as contexts;
 ghost use Rattle.cancel_tree.specs.Endings.{HasNoLiveChild, without};
 
-use crate::kept::{KeptContext, ContextKey, jump_of, place_of};
+use crate::kept::{ContextKey, KeptContext, jump_of, place_of};
 use eio_value::{Full, NoMemory, Plain};
 use slab::Slab;
 use std::alloc::Global;

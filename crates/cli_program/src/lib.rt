@@ -6,8 +6,8 @@
 #![tactic(auto)]
 
 mod keeping;
-mod notes;
 mod line_column;
+mod notes;
 mod program;
 
 pub use program::run_words;

@@ -14,13 +14,13 @@ ghost use Rattle.domain_core.specs.Turns.{Starts};
 
 use crate::fibers::{BODY_FIBER, Fibers, MOST_FIBERS};
 use cancel_tree::Contexts;
+use domain_strikes::Strikes;
 use eio_value::{NoMemory, Outcome};
 use group_core::Groups;
 use run_queue::Ready;
 use script_code::Script;
 use std::alloc::Global;
 use std::marker::Model;
-use domain_strikes::Strikes;
 use switch_core::Switches;
 
 /// One domain of fibers.

@@ -9,8 +9,8 @@ ghost use Rattle.domain_core.specs.Conditions.{MayStrike};
 use crate::domain::Domain;
 use crate::standing::Standing;
 use crate::told::Told;
-use eio_value::{NoMemory, Plain, Raised};
 use domain_strikes::Strike;
+use eio_value::{NoMemory, Plain, Raised};
 use trace_lines::{Did, Said2};
 
 impl Domain {

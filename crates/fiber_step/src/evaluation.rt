@@ -91,7 +91,11 @@ pub struct TextOperand {
 }
 
 /// The text that an expression has to come to, or what is raised in its place: what it raises, or that it is no text.
-pub fn evaluate_text(script: &Script, number: u32, variables: &InScope) -> Result<TextOperand, Misuse>
+pub fn evaluate_text(
+    script: &Script,
+    number: u32,
+    variables: &InScope,
+) -> Result<TextOperand, Misuse>
     requires { HasExpression (nodes_of script.now) number }
     ensures value { operand_text result ≡ text_of variables.now (expression_at (nodes_of script.now) number) }
     ensures behind { IfOk result (λ it. it.behind ≡ behind_expression (nodes_of script.now) number) }

@@ -14,12 +14,12 @@ mod laws;
 mod mark;
 mod operand_calls;
 mod passing;
+mod progress;
 mod settling;
 mod silent;
 mod statements;
 mod step;
 mod throw;
-mod progress;
 mod unwind;
 mod variables;
 

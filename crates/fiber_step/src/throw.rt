@@ -85,7 +85,12 @@ impl<'f> FiberDraft<'f> {
     }
 
     /// The second block of a `try`, which names the text of the exception.
-    fn caught(&mut self, mark: Mark, raised: &Raised, texts: &mut Texts) -> Result<Progress, NoMemory>
+    fn caught(
+        &mut self,
+        mark: Mark,
+        raised: &Raised,
+        texts: &mut Texts,
+    ) -> Result<Progress, NoMemory>
         requires stops { stops mark ≡ true }
         requires end { is_end mark ≡ false }
         requires texts { HasTextsOfRaised texts.old raised.now }

@@ -5,13 +5,13 @@
 
 mod switches;
 
-pub use switches::{finished_is_empty, handlers_run_by_batches, handlers_run_once, next_is_told};
-
 ghost use Rattle.law_parts.specs.Contexts.{CancelsBelow, OffStays, OffWalksUp, ProtectedIsShut};
 ghost use Rattle.law_parts.specs.Items.{ItemsInOrder};
 ghost use Rattle.law_parts.specs.Offs.{OffLeaves};
 ghost use Rattle.law_parts.specs.Skips.{SkipsAlike};
 ghost use Rattle.law_parts.specs.Waits.{CallsKeepCells, LateStrikesDoNothing, StrikesKeepCells};
+
+pub use switches::{finished_is_empty, handlers_run_by_batches, handlers_run_once, next_is_told};
 
 /// A call on a shared object that answers `Off` leaves the object as it was and wakes nobody, and its
 /// context is off: so a call that is cancelled before it waits has done nothing.

@@ -9,8 +9,8 @@ ghost use Rattle.mock_backend.specs.Faults.{HasRunCause, WritesText};
 use crate::fault::RunFault;
 use crate::run::run_script;
 use crate::script::mocked_script;
-use spec_machine::Ending;
 use script_input::{InputFault, Refusal, refusal_line};
+use spec_machine::Ending;
 use std::alloc::Global;
 use trace_out::{Sink, write_all};
 

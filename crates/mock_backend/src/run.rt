@@ -22,8 +22,8 @@ use crate::local::Local;
 use crate::trace::write_line;
 use domain_core::{Domain, Turn};
 use eio_value::{NoMemory, Outcome, Texts, show_raised};
-use spec_machine::Ending;
 use script_code::Script;
+use spec_machine::Ending;
 use std::alloc::Global;
 use trace_out::{Sink, write_all};
 

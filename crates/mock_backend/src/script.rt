@@ -5,8 +5,8 @@ ghost use Rattle.mock_backend.specs.Today.{built_today};
 ghost use Rattle.spec_script.specs.Inputs as inputs;
 ghost use Rattle.script_input.specs.Refusals.{Refuses};
 
-use script_input::{InputFault, Kind, Refusal, input_script};
 use script_code::Script;
+use script_input::{InputFault, Kind, Refusal, input_script};
 use spec_script::Feature;
 use std::alloc::Global;
 

@@ -5,7 +5,7 @@ ghost use Rattle.std.specs.Prelude.{◌≡◌, ◌==◌, length, [], true, false
 ghost use Rattle.spec_parts.specs.Directories.{held_by, with_entry, without_entry};
 ghost use Rattle.path_cap.specs.Nodes.{held_of};
 
-use crate::item::{Item, HeldNode};
+use crate::item::{HeldNode, Item};
 use eio_value::NoMemory;
 use std::alloc::Global;
 use std::cmp::Ordering;

@@ -8,7 +8,7 @@ ghost use Rattle.path_cap.specs.Leading.{content_in};
 ghost use Rattle.path_cap.specs.Nodes.{held_of};
 
 use crate::directory::Directory;
-use crate::item::{Item, HeldNode};
+use crate::item::{HeldNode, Item};
 use eio_value::{Bytes, NoMemory};
 use std::alloc::Global;
 use std::marker::Model;

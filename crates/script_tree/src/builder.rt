@@ -3,7 +3,7 @@
 ghost use Rattle.std.specs.Prelude.{◌≡◌, [], ◌∷◌, ◌++◌, OnOk};
 ghost use Rattle.script_tree.specs.Pieces.{Words, Numbers, Texts, Opens, Closes, IsWhole, tree_of};
 
-use crate::tree::{TreeDraft, TreeNode, Tree};
+use crate::tree::{Tree, TreeDraft, TreeNode};
 use eio_value::NoMemory;
 use std::alloc::Global;
 use std::marker::Model;

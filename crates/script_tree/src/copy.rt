@@ -3,7 +3,7 @@
 ghost use Rattle.std.specs.Prelude.{◌≡◌, ◌∷◌, ◌++◌, [], map, IfOk};
 ghost use Rattle.script_tree.specs.Pieces.{piece_of};
 
-use crate::tree::{TreeDraft, TreeNode, Tree};
+use crate::tree::{Tree, TreeDraft, TreeNode};
 use eio_value::NoMemory;
 use std::alloc::Global;
 

@@ -15,5 +15,5 @@ mod write;
 pub use builder::TreeBuilder;
 pub use fault::TreeFault;
 pub use reader::read_tree;
-pub use tree::{TreeNode, Tree};
+pub use tree::{Tree, TreeNode};
 pub use write::write_tree;

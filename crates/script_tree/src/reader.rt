@@ -10,7 +10,7 @@ use crate::fault::TreeFault;
 use crate::gap::after_gap;
 use crate::run::{is_run_byte, parse_run, run_len};
 use crate::text::read_text;
-use crate::tree::{TreeDraft, TreeNode, Tree};
+use crate::tree::{Tree, TreeDraft, TreeNode};
 use std::alloc::Global;
 
 /// The most lists that may be open in one another.
@@ -36,7 +36,12 @@ pub fn read_tree(alloc: Global, bytes: &[u8]) -> Result<Tree, TreeFault>
 }
 
 /// The text that begins at a quote, as one more piece; the place behind it.
-fn push_text(alloc: Global, bytes: &[u8], at: usize, draft: &mut TreeDraft) -> Result<usize, TreeFault>
+fn push_text(
+    alloc: Global,
+    bytes: &[u8],
+    at: usize,
+    draft: &mut TreeDraft,
+) -> Result<usize, TreeFault>
     requires within { at < length bytes.now }
     requires most { length bytes.now ≤ 262144 }
     ensures within { IfOk result (λ next. next ≤ length bytes.now) }
@@ -53,7 +58,12 @@ fn push_text(alloc: Global, bytes: &[u8], at: usize, draft: &mut TreeDraft) -> R
 }
 
 /// The word or number that begins at a run byte, as one more piece; the place behind it.
-fn push_run(alloc: Global, bytes: &[u8], at: usize, draft: &mut TreeDraft) -> Result<usize, TreeFault>
+fn push_run(
+    alloc: Global,
+    bytes: &[u8],
+    at: usize,
+    draft: &mut TreeDraft,
+) -> Result<usize, TreeFault>
     requires within { at < length bytes.now }
     requires run { is_run_byte (slice_index bytes.now at) ≡ true }
     requires most { length bytes.now ≤ 262144 }

@@ -11,7 +11,7 @@ ghost use Rattle.script_tree.specs.Pieces.{piece_of};
 ghost use Rattle.script_tree.specs.Spelled as spelled;
 ghost use Rattle.script_tree.specs.Fronts.{IsFront};
 
-use crate::tree::{TreeNode, Tree};
+use crate::tree::{Tree, TreeNode};
 use eio_value::NoMemory;
 use itoa::Buffer;
 
@@ -97,7 +97,10 @@ fn push_piece(node: &TreeNode, out: &mut Vec<u8>) -> Result<(), NoMemory>
 {
     match node {
         TreeNode::Word { word, .. } => push_bytes(word, out),
-        TreeNode::Number { number, .. } => push_bytes(Buffer::new().format(*number).as_bytes(), out),
+        TreeNode::Number { number, .. } => push_bytes(
+            Buffer::new().format(*number).as_bytes(),
+            out,
+        ),
         TreeNode::Text { text, .. } => push_text(text, out),
         TreeNode::Open { .. } => push_bytes(b"(", out),
         TreeNode::Close => push_bytes(b")", out),

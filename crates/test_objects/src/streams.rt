@@ -7,7 +7,7 @@ use eio_value::{NoMemory, Outcome, Value};
 use std::alloc::Global;
 use std::test::Fail;
 use stream_core::Stream;
-use wait_list::{MemWake, MemSent};
+use wait_list::{MemSent, MemWake};
 
 /// Two fibers wait to take; the first has entered twice.
 fn wait_to_take(alloc: Global, stream: &mut Stream)

@@ -7,7 +7,7 @@ use crate::waits::{DEAD, all_alive, waiter, waking};
 use eio_value::{Answer, Job, NoMemory, Outcome, Value, Wake};
 use std::alloc::Global;
 use std::test::Fail;
-use wait_list::{MemWake, Queued, MemSent, WaitList};
+use wait_list::{MemSent, MemWake, Queued, WaitList};
 
 /// The fiber with this cell, in the wait with this stamp.
 fn fiber(cell: u32, armed: u64) -> Queued
@@ -48,7 +48,8 @@ fn is_told(list: &mut WaitList, wake: &mut MemWake) -> bool
     let off = matches!(list.wait(fiber(0, 13), true), Answer::Off);
     let waits = matches!(list.wait(fiber(0, 13), false), Answer::Waits);
     let woken = list.wake_first(wake, &Outcome::Ok(Value::Int(8)));
-    let told = matches!(wake.told, MemSent::Resumed(who, Outcome::Ok(Value::Int(8))) if who.cell == 0);
+    let told =
+        matches!(wake.told, MemSent::Resumed(who, Outcome::Ok(Value::Int(8))) if who.cell == 0);
     off && waits && told && matches!(woken, Some(queued) if queued.number == 13)
 }
 

@@ -1,8 +1,8 @@
 //! Which parts may move to another thread: one that may not gets no proof here.
 
 use cancel_tree::Contexts;
-use run_queue::{Ready, Timers};
 use domain_strikes::Strikes;
+use run_queue::{Ready, Timers};
 
 /// Only of a type that may move to another thread.
 fn may_move<T: Send>() {}

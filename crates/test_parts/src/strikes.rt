@@ -4,9 +4,9 @@ ghost use Rattle.std.specs.Prelude.{◌≡◌, []};
 ghost use Rattle.spec_parts.specs.ContextCalls as calls;
 
 use cancel_tree::Contexts;
+use domain_strikes::{Strike, Strikes};
 use eio_value::{Full, Plain};
 use std::test::Fail;
-use domain_strikes::{Strike, Strikes};
 
 /// Who makes a strike, and on whom.
 fn told(strike: Option<Strike>) -> Option<(u32, u32)> {

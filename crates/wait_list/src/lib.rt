@@ -14,5 +14,5 @@ mod mem_wake;
 mod queued;
 
 pub use list::WaitList;
-pub use mem_wake::{MemWake, MemSent};
+pub use mem_wake::{MemSent, MemWake};
 pub use queued::Queued;
