@@ -5,14 +5,14 @@ ghost use Rattle.std.specs.Prelude.{◌≡◌, []};
 use eio_value::{Member, NoMemory, Plain, Raised, TextId, Value};
 use std::alloc::Global;
 use std::test::Fail;
-use switch_core::{CloseStep, Handler, ReleaseFault, Switches, Variables};
+use switch_core::{CloseStep, Handler, HandlerVariables, ReleaseFault, Switches};
 
 /// A handler that begins with this node, with one variable.
 fn handler(alloc: Global, node: u32) -> Result<Handler, NoMemory> {
     let values = vec![in alloc; Value::Ctx(node)]?;
     Ok(Handler {
         node,
-        env: Variables::new(values),
+        env: HandlerVariables::new(values),
     })
 }
 

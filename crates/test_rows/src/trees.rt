@@ -3,7 +3,7 @@
 
 use crate::unanswered::Unanswered;
 use script_input::{InputFault, input_tree, refusal_line};
-use script_tree::{Node, Tree, TreeBuilder, write_tree};
+use script_tree::{Tree, TreeBuilder, TreeNode, write_tree};
 use std::alloc::{AllocError, Global};
 use std::str;
 
@@ -30,13 +30,13 @@ fn push_bytes(line: &[u8], out: &mut String) -> Result<(), Unanswered> {
 }
 
 /// Shows a piece.
-fn push_piece(piece: &Node, out: &mut String) -> Result<(), AllocError> {
+fn push_piece(piece: &TreeNode, out: &mut String) -> Result<(), AllocError> {
     match piece {
-        Node::Word { at, word } => write!(out, " word {} of {}", *at, word.len()),
-        Node::Number { at, number } => write!(out, " number {} {}", *at, *number),
-        Node::Text { at, text } => write!(out, " text {} of {}", *at, text.len()),
-        Node::Open { at } => write!(out, " open {}", *at),
-        Node::Close => out.push_str(" close"),
+        TreeNode::Word { at, word } => write!(out, " word {} of {}", *at, word.len()),
+        TreeNode::Number { at, number } => write!(out, " number {} {}", *at, *number),
+        TreeNode::Text { at, text } => write!(out, " text {} of {}", *at, text.len()),
+        TreeNode::Open { at } => write!(out, " open {}", *at),
+        TreeNode::Close => out.push_str(" close"),
     }
 }
 
