@@ -23,16 +23,29 @@ pub data Evaluated (A : Type 0) : Type 0 where
 abbrev pub value_at : List Value → ℕ → Value
 value_at variables slot = unwrap_or (slice_get variables slot) Unit
 
--- the number that a value holds: of a context, of a switch, or a number itself; 0 for every other value
-abbrev pub number_in : Value → ℕ
-number_in (Ctx number) = number
-number_in (Switch number) = number
-number_in (Int (pos number)) = number
-number_in value = 0
+-- the number of the context that a value names, and of the switch; 0 for every other value
+abbrev pub held_context : Value → ℕ
+held_context (Ctx number) = number
+held_context value = 0
 
--- what a slot stands for that holds a context, a switch, a reader, a writer or a directory: its number
-abbrev pub number_at : List Value → ℕ → ℕ
-number_at variables slot = number_in (value_at variables slot)
+abbrev pub held_switch : Value → ℕ
+held_switch (Switch number) = number
+held_switch value = 0
+
+-- a reader, a writer and a directory are named by a number; 0 for every other value
+abbrev pub held_number : Value → ℕ
+held_number (Int (pos number)) = number
+held_number value = 0
+
+-- what a slot stands for that holds a context, or a switch, or a reader, a writer or a directory: its number
+abbrev pub context_in : List Value → (slot : ℕ) → ℕ
+context_in variables slot = held_context (value_at variables slot)
+
+abbrev pub switch_in : List Value → (slot : ℕ) → ℕ
+switch_in variables slot = held_switch (value_at variables slot)
+
+abbrev pub number_in : List Value → (slot : ℕ) → ℕ
+number_in variables slot = held_number (value_at variables slot)
 
 -- ## Operators
 

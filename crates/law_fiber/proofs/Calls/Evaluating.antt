@@ -1,5 +1,5 @@
 -- Expressions see the variables that they name, and the texts in sight.
-use Rattle.std.proofs.Common.{◌≡◌, ℕ, Bool, true, false, List, ℤ, pos, ◌+ℤ◌, ◌-ℤ◌, int_lt, refl, subst}
+use Rattle.std.proofs.Common.{◌≡◌, Bool, true, false, List, ℤ, pos, ◌+ℤ◌, ◌-ℤ◌, int_lt, refl, subst}
 use Rattle.eio_value.specs.declared.plain.Misuse.TheVariants.{Overflow, NotNumber, NotText}
 use Rattle.eio_value.specs.declared.plain.Plain.{Plain}
 use Rattle.eio_value.specs.declared.plain.Plain.TheVariants.{Invalid}
@@ -7,8 +7,8 @@ use Rattle.eio_value.specs.declared.value.Value.{Value}
 use Rattle.eio_value.specs.declared.value.Value.TheVariants as value
 use Rattle.spec_script.specs.Limits.{is_within}
 use Rattle.spec_script.specs.Syntax.{Operator, Plus, Minus, Same, Less, Expression, NumberValue, TextValue, Variable, UnitValue, Operation, Expressions, NoExpressions, AndExpression}
-use Rattle.spec_fiber.specs.Evaluation.{Evaluated, Is, Raises, number_in, number_at, is_same, truth, on_numbers, operated, ◌then◌, value_of, values_of, as_number, as_text, number_of, text_of}
-use Rattle.law_fiber.specs.Calls.Sights.{Sight, IsInScope, SeesExpression, SeesExpressions}
+use Rattle.spec_fiber.specs.Evaluation.{Evaluated, Is, Raises, held_context, held_switch, held_number, is_same, truth, on_numbers, operated, ◌then◌, value_of, values_of, as_number, as_text, number_of, text_of}
+use Rattle.law_fiber.specs.Calls.Sights.{Sight, SeesExpression, SeesExpressions}
 use Rattle.law_fiber.specs.Calls.Alike.{Tables, AlikeLists, Ends, Goes, IsSameText, AlikeValue, Units, Numbers, Texts, Contexts, Switches, AlikePlain, Invalids, AlikeVariables, AlikeTables}
 use Rattle.law_fiber.proofs.Calls.Texts.{in_sight, same_numbers}
 
@@ -91,11 +91,15 @@ module _ {sight : Sight} {t : Tables} {these those : List Value} (tables : Alike
   pub text_alike : (e : Expression) → SeesExpression sight e → AlikeEvaluated t (IsSameText t) (text_of these e) (text_of those e)
   text_alike e sees = then_alike (value_alike e sees) as_text_alike
 
-number_in_alike : {t : Tables} {a b : Value} → AlikeValue t a b → number_in a ≡ number_in b
-number_in_alike (Texts same) = refl
-number_in_alike other = refl
+-- contexts, switches and numbers are the same in both
+pub held_context_alike : {t : Tables} {a b : Value} → AlikeValue t a b → held_context a ≡ held_context b
+held_context_alike (Texts same) = refl
+held_context_alike other = refl
 
--- the object that stands in a slot in scope is the same
-pub number_at_alike : {sight : Sight} {t : Tables} {these those : List Value} → AlikeVariables sight t these those → (slot : ℕ) → IsInScope sight slot
-    → number_at these slot ≡ number_at those slot
-number_at_alike variables slot sees = number_in_alike (variables.in_scope slot sees)
+pub held_switch_alike : {t : Tables} {a b : Value} → AlikeValue t a b → held_switch a ≡ held_switch b
+held_switch_alike (Texts same) = refl
+held_switch_alike other = refl
+
+pub held_number_alike : {t : Tables} {a b : Value} → AlikeValue t a b → held_number a ≡ held_number b
+held_number_alike (Texts same) = refl
+held_number_alike other = refl

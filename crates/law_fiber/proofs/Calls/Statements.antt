@@ -5,18 +5,18 @@ use Rattle.eio_value.specs.declared.value.Value.TheVariants as value
 use Rattle.spec_script.specs.Syntax as syntax
 use Rattle.spec_script.specs.Syntax.{Statement, Let, LetForm, If, Give, Raise, Try, Repeat, Loop, Trace, Yield, Check, AwaitCancel, Sub, Protect, Cancel, Switch, Fork, Fail, OnRelease, Branches, OnObject, OnObjectWith, UseRw, UsePool, Submit, Sleep, Now, BufRead, OnReader, TakeBytes, Copy, BufWrite, Put, OpenDir, OnPath, Save, Group, Any, Both, First, Directory, Declared, Opened, Block, Begins, Statements, Done, Then, Blocks, NoBlocks, AndBlock}
 use Rattle.spec_fiber.specs.Asks as ask
-use Rattle.spec_fiber.specs.Evaluation.{value_at, number_at}
+use Rattle.spec_fiber.specs.Evaluation.{value_at, held_context, held_switch, held_number}
 use Rattle.spec_fiber.specs.Silent.{Past, Called, Threw, and_then, within, asks, blocks_of, place_in, is_zero, gives, items_of, repeats, repeated, branched, statement, block, statements}
 use Rattle.spec_fiber.specs.Work as work
 use Rattle.spec_fiber.specs.Work.{Work, Carry, cut, bound, caught}
-use Rattle.law_fiber.specs.Calls.Sights.{Sight, IsInScope, SeesDirectory, SeesStatement, SeesBlock, SeesStatements, SeesBlocks}
+use Rattle.law_fiber.specs.Calls.Sights.{Sight, SeesDirectory, SeesStatement, SeesBlock, SeesStatements, SeesBlocks}
 use Rattle.law_fiber.specs.Calls.Alike.{Tables, AlikeLists, Ends, Goes, AlikeValue, Units, Numbers, AlikeVariables, Failures}
 use Rattle.law_fiber.specs.Calls.AlikeCalls as calls
 use Rattle.law_fiber.specs.Calls.AlikeWork as works
 use Rattle.law_fiber.specs.Calls.AlikeWork.{AlikeWork, tables_of, AlikeCarry}
 use Rattle.law_fiber.proofs.Calls.Later.{at_once}
 use Rattle.law_fiber.proofs.Calls.Texts.{in_sight}
-use Rattle.law_fiber.proofs.Calls.Evaluating.{value_alike, values_alike, number_alike, text_alike, number_at_alike}
+use Rattle.law_fiber.proofs.Calls.Evaluating.{value_alike, values_alike, number_alike, text_alike, held_context_alike, held_switch_alike, held_number_alike}
 use Rattle.law_fiber.proofs.Calls.Going.{AlikeWent, Calls, Throws, went_from, carry_cut, carry_bound, carry_caught, followed, within_alike, past_alike, raises_alike, called_alike, asks_alike, with_value_alike, with_number_alike, at_place, by_length, either}
 
 -- ## Parts
@@ -41,7 +41,7 @@ all_see sight (AndBlock first rest) sees = λ k d less. all_with (SeesBlock sigh
 place_alike : {sight : Sight} {t : Tables} {these those : List Value} → AlikeVariables sight t these those → (directory : Directory)
     → SeesDirectory sight directory → place_in these directory ≡ place_in those directory
 place_alike variables (Declared number) sees = refl
-place_alike variables (Opened slot) sees = ap (λ n. ask.Opened n) (number_at_alike variables slot sees)
+place_alike variables (Opened slot) sees = ap (λ n. ask.Opened n) (held_number_alike (variables.in_scope slot sees))
 
 pub items_see : (sight : Sight) (body : Block) → SeesBlock sight body → SeesStatements sight (items_of body)
 unfolding SeesBlock
@@ -71,13 +71,14 @@ branched_alike {sight} Any (AndBlock first rest) sees carry = asks_alike (calls.
 branched_alike {sight} Both these sees carry = asks_alike (calls.Branchings Both _ (all_see sight these sees)) carry
 branched_alike {sight} First these sees carry = asks_alike (calls.Branchings First _ (all_see sight these sees)) carry
 
--- a call on what stands in a slot in scope
-on_slot : {sight : Sight} {c d : Carry} (call asked : ℕ → ask.Ask) (slot : ℕ) → IsInScope sight slot
+-- a call on what a slot names, where that is the same for both
+on_slot : {sight : Sight} {c d : Carry} (held : Value → ℕ) (call asked : ℕ → ask.Ask) (slot : ℕ)
+    → held (value_at c.variables slot) ≡ held (value_at d.variables slot)
     → ((n : ℕ) → calls.AlikeAsk sight (tables_of c d) (call n) (asked n)) → AlikeCarry sight c d
-    → AlikeWent sight (tables_of c d) (asks (call (number_at c.variables slot)) c) (asks (asked (number_at d.variables slot)) d)
-on_slot {c = c} {d = d} call asked slot sees alike carry =
-    at_place (λ n. asks (asked n) d) (number_at c.variables slot) (number_at d.variables slot) (number_at_alike carry.variables slot sees)
-    (asks_alike (alike (number_at c.variables slot)) carry)
+    → AlikeWent sight (tables_of c d) (asks (call (held (value_at c.variables slot))) c) (asks (asked (held (value_at d.variables slot))) d)
+on_slot {c = c} {d = d} held call asked slot same alike carry =
+    at_place (λ n. asks (asked n) d) (held (value_at c.variables slot)) (held (value_at d.variables slot)) same
+    (asks_alike (alike (held (value_at c.variables slot))) carry)
 
 -- a call on a directory
 on_directory : {sight : Sight} {c d : Carry} (call asked : ask.DirectoryRef → ask.Ask) (directory : Directory) → SeesDirectory sight directory
@@ -135,14 +136,18 @@ module _ {sight : Sight} where
     statement_alike (Sub body) c d sees carry = asks_alike (calls.Subs body sees) carry
     statement_alike (Protect body) c d sees carry = asks_alike (calls.Protects body sees) carry
     statement_alike (Cancel context text) c d sees carry =
-        on_slot (λ n. ask.Cancel n text) (λ n. ask.Cancel n text) context sees.0 (λ n. calls.Cancels n (in_sight carry.tables text sees.1)) carry
+        on_slot held_context (λ n. ask.Cancel n text) (λ n. ask.Cancel n text) context (held_context_alike (carry.variables.in_scope context sees.0))
+        (λ n. calls.Cancels n (in_sight carry.tables text sees.1)) carry
     statement_alike (Switch body) c d sees carry = asks_alike (calls.Switches body sees) carry
     statement_alike (Fork forking switch body) c d sees carry =
-        on_slot (λ n. ask.Fork forking n body) (λ n. ask.Fork forking n body) switch sees.0 (λ n. calls.Forks forking n body sees.1) carry
+        on_slot held_switch (λ n. ask.Fork forking n body) (λ n. ask.Fork forking n body) switch (held_switch_alike (carry.variables.in_scope switch sees.0))
+        (λ n. calls.Forks forking n body sees.1) carry
     statement_alike (Fail switch text) c d sees carry =
-        on_slot (λ n. ask.Fail n text) (λ n. ask.Fail n text) switch sees.0 (λ n. calls.Fails n (in_sight carry.tables text sees.1)) carry
+        on_slot held_switch (λ n. ask.Fail n text) (λ n. ask.Fail n text) switch (held_switch_alike (carry.variables.in_scope switch sees.0))
+        (λ n. calls.Fails n (in_sight carry.tables text sees.1)) carry
     statement_alike (OnRelease switch handler) c d sees carry =
-        on_slot (λ n. ask.OnRelease n handler) (λ n. ask.OnRelease n handler) switch sees.0 (λ n. calls.OnReleases n handler sees.1) carry
+        on_slot held_switch (λ n. ask.OnRelease n handler) (λ n. ask.OnRelease n handler) switch (held_switch_alike (carry.variables.in_scope switch sees.0))
+        (λ n. calls.OnReleases n handler sees.1) carry
     statement_alike (Branches group branches) c d sees carry = branched_alike group branches sees carry
     statement_alike (OnObject call object) c d sees carry = asks_alike (calls.OnObjects call object) carry
     statement_alike (OnObjectWith call object operand) c d sees carry =
@@ -161,15 +166,18 @@ module _ {sight : Sight} where
     statement_alike Now c d sees carry = asks_alike calls.Nows carry
     statement_alike (BufRead flow limit body) c d sees carry = asks_alike (calls.OpenReaders flow limit body sees) carry
     statement_alike (OnReader call reader) c d sees carry =
-        on_slot (λ n. ask.OnReader call n) (λ n. ask.OnReader call n) reader sees (λ n. calls.OnReaders call n) carry
+        on_slot held_number (λ n. ask.OnReader call n) (λ n. ask.OnReader call n) reader (held_number_alike (carry.variables.in_scope reader sees))
+        (λ n. calls.OnReaders call n) carry
     statement_alike (TakeBytes reader count) c d sees carry =
         with_number_alike (number_alike carry.tables carry.variables count sees.1) carry (λ z.
-        on_slot (λ n. ask.TakeBytes n z) (λ n. ask.TakeBytes n z) reader sees.0 (λ n. calls.Takes n z) carry)
+        on_slot held_number (λ n. ask.TakeBytes n z) (λ n. ask.TakeBytes n z) reader (held_number_alike (carry.variables.in_scope reader sees.0))
+        (λ n. calls.Takes n z) carry)
     statement_alike (Copy from to) c d sees carry = asks_alike (calls.Copies from to) carry
     statement_alike (BufWrite flow body) c d sees carry = asks_alike (calls.OpenWriters flow body sees) carry
     statement_alike (Put writer operand) c d sees carry =
         with_value_alike (text_alike carry.tables carry.variables operand sees.1) carry (λ a b alike.
-        on_slot (λ n. ask.PutText n a) (λ n. ask.PutText n b) writer sees.0 (λ n. calls.Puts n alike) carry)
+        on_slot held_number (λ n. ask.PutText n a) (λ n. ask.PutText n b) writer (held_number_alike (carry.variables.in_scope writer sees.0))
+        (λ n. calls.Puts n alike) carry)
     statement_alike (OpenDir directory path body) c d sees carry =
         with_value_alike (text_alike carry.tables carry.variables path sees.1) carry (λ a b alike.
         on_directory (λ place. ask.OpenDirectory place a body) (λ place. ask.OpenDirectory place b body) directory sees.0
