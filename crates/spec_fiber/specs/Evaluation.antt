@@ -24,28 +24,28 @@ abbrev pub value_at : List Value → ℕ → Value
 value_at variables slot = unwrap_or (slice_get variables slot) Unit
 
 -- the number of the context that a value names, and of the switch; 0 for every other value
-abbrev pub held_context : Value → ℕ
-held_context (Ctx number) = number
-held_context value = 0
+abbrev pub context_in : Value → ℕ
+context_in (Ctx number) = number
+context_in value = 0
 
-abbrev pub held_switch : Value → ℕ
-held_switch (Switch number) = number
-held_switch value = 0
+abbrev pub switch_in : Value → ℕ
+switch_in (Switch number) = number
+switch_in value = 0
 
 -- a reader, a writer and a directory are named by a number; 0 for every other value
-abbrev pub held_number : Value → ℕ
-held_number (Int (pos number)) = number
-held_number value = 0
+abbrev pub number_in : Value → ℕ
+number_in (Int (pos number)) = number
+number_in value = 0
 
 -- what a slot stands for that holds a context, or a switch, or a reader, a writer or a directory: its number
-abbrev pub context_in : List Value → (slot : ℕ) → ℕ
-context_in variables slot = held_context (value_at variables slot)
+abbrev pub held_context : List Value → (slot : ℕ) → ℕ
+held_context variables slot = context_in (value_at variables slot)
 
-abbrev pub switch_in : List Value → (slot : ℕ) → ℕ
-switch_in variables slot = held_switch (value_at variables slot)
+abbrev pub held_switch : List Value → (slot : ℕ) → ℕ
+held_switch variables slot = switch_in (value_at variables slot)
 
-abbrev pub number_in : List Value → (slot : ℕ) → ℕ
-number_in variables slot = held_number (value_at variables slot)
+abbrev pub held_number : List Value → (slot : ℕ) → ℕ
+held_number variables slot = number_in (value_at variables slot)
 
 -- ## Operators
 

@@ -9,7 +9,7 @@ use Rattle.eio_value.specs.declared.raised.Raised.{Raised}
 use Rattle.eio_value.specs.declared.raised.Raised.TheVariants.{One}
 use Rattle.spec_script.specs.Syntax.{Statement, Let, LetForm, If, Give, Raise, Try, Repeat, Loop, Trace, Yield, Check, AwaitCancel, Sub, Protect, Cancel, Switch, Fork, Fail, OnRelease, Branches, OnObject, OnObjectWith, UseRw, UsePool, Submit, Sleep, Now, BufRead, OnReader, TakeBytes, Copy, BufWrite, Put, OpenDir, OnPath, Save, Lock, Group, All, Any, Directory, Block, Begins, Statements, Done, Then, Blocks, NoBlocks, AndBlock}
 use Rattle.spec_script.specs.Syntax as syntax
-use Rattle.spec_fiber.specs.Evaluation.{Evaluated, Is, Raises, value_at, context_in, switch_in, number_in, value_of, values_of, number_of, text_of}
+use Rattle.spec_fiber.specs.Evaluation.{Evaluated, Is, Raises, value_at, held_context, held_switch, held_number, value_of, values_of, number_of, text_of}
 use Rattle.spec_fiber.specs.Asks.{Ask, DirectoryRef}
 use Rattle.spec_fiber.specs.Asks as ask
 use Rattle.spec_fiber.specs.Work.{Work, Carry, cut, bound, new_raise, caught}
@@ -54,7 +54,7 @@ blocks_of (AndBlock block rest) = block ∷ blocks_of rest
 
 abbrev pub place_in : List Value → Directory → DirectoryRef
 place_in variables (syntax.Declared number) = ask.Declared number
-place_in variables (syntax.Opened slot) = ask.Opened (number_in variables slot)
+place_in variables (syntax.Opened slot) = ask.Opened (held_number variables slot)
 
 -- truth is any number but 0
 abbrev pub is_zero : ℤ → Bool
@@ -108,11 +108,11 @@ unfoldable mutual
   statement AwaitCancel c = asks ask.AwaitCancel c
   statement (Sub body) c = asks (ask.Sub body) c
   statement (Protect body) c = asks (ask.Protect body) c
-  statement (Cancel context text) c = asks (ask.Cancel (context_in c.variables context) text) c
+  statement (Cancel context text) c = asks (ask.Cancel (held_context c.variables context) text) c
   statement (Switch body) c = asks (ask.Switch body) c
-  statement (Fork forking switch body) c = asks (ask.Fork forking (switch_in c.variables switch) body) c
-  statement (Fail switch text) c = asks (ask.Fail (switch_in c.variables switch) text) c
-  statement (OnRelease switch handler) c = asks (ask.OnRelease (switch_in c.variables switch) handler) c
+  statement (Fork forking switch body) c = asks (ask.Fork forking (held_switch c.variables switch) body) c
+  statement (Fail switch text) c = asks (ask.Fail (held_switch c.variables switch) text) c
+  statement (OnRelease switch handler) c = asks (ask.OnRelease (held_switch c.variables switch) handler) c
   statement (Branches group branches) c = branched group branches c
   statement (OnObject call object) c = asks (ask.OnObject call object) c
   statement (OnObjectWith call object operand) c = with_value (value_of c.variables operand) c (λ value. asks (ask.OnObjectWith call object value) c)
@@ -122,11 +122,11 @@ unfoldable mutual
   statement (Sleep time) c = with_value (number_of c.variables time) c (λ z. asks (ask.Sleep z) c)
   statement Now c = asks ask.Now c
   statement (BufRead flow limit body) c = asks (ask.OpenReader flow limit body) c
-  statement (OnReader call reader) c = asks (ask.OnReader call (number_in c.variables reader)) c
-  statement (TakeBytes reader count) c = with_value (number_of c.variables count) c (λ z. asks (ask.TakeBytes (number_in c.variables reader) z) c)
+  statement (OnReader call reader) c = asks (ask.OnReader call (held_number c.variables reader)) c
+  statement (TakeBytes reader count) c = with_value (number_of c.variables count) c (λ z. asks (ask.TakeBytes (held_number c.variables reader) z) c)
   statement (Copy from to) c = asks (ask.Copy from to) c
   statement (BufWrite flow body) c = asks (ask.OpenWriter flow body) c
-  statement (Put writer operand) c = with_value (text_of c.variables operand) c (λ text. asks (ask.PutText (number_in c.variables writer) text) c)
+  statement (Put writer operand) c = with_value (text_of c.variables operand) c (λ text. asks (ask.PutText (held_number c.variables writer) text) c)
   statement (OpenDir directory path body) c = with_value (text_of c.variables path) c (λ text. asks (ask.OpenDirectory (place_in c.variables directory) text body) c)
   statement (OnPath call directory path) c = with_value (text_of c.variables path) c (λ text. asks (ask.OnPath call (place_in c.variables directory) text) c)
   statement (Save only_new directory path content) c =

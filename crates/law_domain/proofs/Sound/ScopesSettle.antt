@@ -8,7 +8,7 @@ use Rattle.spec_script.specs.Syntax as syntax
 use Rattle.spec_script.specs.Syntax.{Statement, Let, LetForm, If, Give, Raise, Try, Repeat, Loop, Trace, Yield, Check, AwaitCancel, Sub, Protect, Cancel, Switch, Fork, Fail, OnRelease, Branches, OnObject, OnObjectWith, UseRw, UsePool, Submit, Sleep, Now, BufRead, OnReader, TakeBytes, Copy, BufWrite, Put, OpenDir, OnPath, Save, Group, Any, Both, First, Block, Begins, Statements, Done, Then, Blocks, NoBlocks, AndBlock}
 use Rattle.spec_fiber.specs.Asks as ask
 use Rattle.spec_fiber.specs.Asks.{Ask}
-use Rattle.spec_fiber.specs.Evaluation.{value_of, values_of, number_of, text_of, number_in}
+use Rattle.spec_fiber.specs.Evaluation.{value_of, values_of, number_of, text_of, held_number}
 use Rattle.spec_fiber.specs.Settling.{Settled, answered, thrown, at_end, resource_of}
 use Rattle.spec_fiber.specs.Silent.{Past, Threw, and_then, within, asks, place_in, is_zero, gives, repeated, branched, statement, block, statements}
 use Rattle.spec_fiber.specs.Work as work
@@ -95,11 +95,11 @@ mutual
   statement_inside (BufRead flow limit body) c = (refl, refl, refl)
   statement_inside (OnReader call reader) c = (refl, refl, refl)
   statement_inside (TakeBytes reader count) c =
-      each_value IsInside (number_of c.variables count) c (λ z. asks (ask.TakeBytes (number_in c.variables reader) z) c) (λ z. (refl, refl, refl))
+      each_value IsInside (number_of c.variables count) c (λ z. asks (ask.TakeBytes (held_number c.variables reader) z) c) (λ z. (refl, refl, refl))
   statement_inside (Copy from to) c = (refl, refl, refl)
   statement_inside (BufWrite flow body) c = (refl, refl, refl)
   statement_inside (Put writer operand) c =
-      each_value IsInside (text_of c.variables operand) c (λ text. asks (ask.PutText (number_in c.variables writer) text) c) (λ text. (refl, refl, refl))
+      each_value IsInside (text_of c.variables operand) c (λ text. asks (ask.PutText (held_number c.variables writer) text) c) (λ text. (refl, refl, refl))
   statement_inside (OpenDir directory path body) c =
       each_value IsInside (text_of c.variables path) c (λ text. asks (ask.OpenDirectory (place_in c.variables directory) text body) c) (λ text. (refl, refl, refl))
   statement_inside (OnPath call directory path) c =

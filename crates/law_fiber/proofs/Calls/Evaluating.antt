@@ -7,7 +7,7 @@ use Rattle.eio_value.specs.declared.value.Value.{Value}
 use Rattle.eio_value.specs.declared.value.Value.TheVariants as value
 use Rattle.spec_script.specs.Limits.{is_within}
 use Rattle.spec_script.specs.Syntax.{Operator, Plus, Minus, Same, Less, Expression, NumberValue, TextValue, Variable, UnitValue, Operation, Expressions, NoExpressions, AndExpression}
-use Rattle.spec_fiber.specs.Evaluation.{Evaluated, Is, Raises, held_context, held_switch, held_number, is_same, truth, on_numbers, operated, ◌then◌, value_of, values_of, as_number, as_text, number_of, text_of}
+use Rattle.spec_fiber.specs.Evaluation.{Evaluated, Is, Raises, context_in, switch_in, number_in, is_same, truth, on_numbers, operated, ◌then◌, value_of, values_of, as_number, as_text, number_of, text_of}
 use Rattle.law_fiber.specs.Calls.Sights.{Sight, SeesExpression, SeesExpressions}
 use Rattle.law_fiber.specs.Calls.Alike.{Tables, AlikeLists, Ends, Goes, IsSameText, AlikeValue, Units, Numbers, Texts, Contexts, Switches, AlikePlain, Invalids, AlikeVariables, AlikeTables}
 use Rattle.law_fiber.proofs.Calls.Texts.{in_sight, same_numbers}
@@ -92,14 +92,14 @@ module _ {sight : Sight} {t : Tables} {these those : List Value} (tables : Alike
   text_alike e sees = then_alike (value_alike e sees) as_text_alike
 
 -- contexts, switches and numbers are the same in both
-pub held_context_alike : {t : Tables} {a b : Value} → AlikeValue t a b → held_context a ≡ held_context b
-held_context_alike (Texts same) = refl
-held_context_alike other = refl
+pub context_in_alike : {t : Tables} {a b : Value} → AlikeValue t a b → context_in a ≡ context_in b
+context_in_alike (Texts same) = refl
+context_in_alike other = refl
 
-pub held_switch_alike : {t : Tables} {a b : Value} → AlikeValue t a b → held_switch a ≡ held_switch b
-held_switch_alike (Texts same) = refl
-held_switch_alike other = refl
+pub switch_in_alike : {t : Tables} {a b : Value} → AlikeValue t a b → switch_in a ≡ switch_in b
+switch_in_alike (Texts same) = refl
+switch_in_alike other = refl
 
-pub held_number_alike : {t : Tables} {a b : Value} → AlikeValue t a b → held_number a ≡ held_number b
-held_number_alike (Texts same) = refl
-held_number_alike other = refl
+pub number_in_alike : {t : Tables} {a b : Value} → AlikeValue t a b → number_in a ≡ number_in b
+number_in_alike (Texts same) = refl
+number_in_alike other = refl

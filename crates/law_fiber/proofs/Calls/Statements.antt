@@ -5,7 +5,7 @@ use Rattle.eio_value.specs.declared.value.Value.TheVariants as value
 use Rattle.spec_script.specs.Syntax as syntax
 use Rattle.spec_script.specs.Syntax.{Statement, Let, LetForm, If, Give, Raise, Try, Repeat, Loop, Trace, Yield, Check, AwaitCancel, Sub, Protect, Cancel, Switch, Fork, Fail, OnRelease, Branches, OnObject, OnObjectWith, UseRw, UsePool, Submit, Sleep, Now, BufRead, OnReader, TakeBytes, Copy, BufWrite, Put, OpenDir, OnPath, Save, Group, Any, Both, First, Directory, Declared, Opened, Block, Begins, Statements, Done, Then, Blocks, NoBlocks, AndBlock}
 use Rattle.spec_fiber.specs.Asks as ask
-use Rattle.spec_fiber.specs.Evaluation.{value_at, held_context, held_switch, held_number}
+use Rattle.spec_fiber.specs.Evaluation.{value_at, context_in, switch_in, number_in}
 use Rattle.spec_fiber.specs.Silent.{Past, Called, Threw, and_then, within, asks, blocks_of, place_in, is_zero, gives, items_of, repeats, repeated, branched, statement, block, statements}
 use Rattle.spec_fiber.specs.Work as work
 use Rattle.spec_fiber.specs.Work.{Work, Carry, cut, bound, caught}
@@ -16,7 +16,7 @@ use Rattle.law_fiber.specs.Calls.AlikeWork as works
 use Rattle.law_fiber.specs.Calls.AlikeWork.{AlikeWork, tables_of, AlikeCarry}
 use Rattle.law_fiber.proofs.Calls.Later.{at_once}
 use Rattle.law_fiber.proofs.Calls.Texts.{in_sight}
-use Rattle.law_fiber.proofs.Calls.Evaluating.{value_alike, values_alike, number_alike, text_alike, held_context_alike, held_switch_alike, held_number_alike}
+use Rattle.law_fiber.proofs.Calls.Evaluating.{value_alike, values_alike, number_alike, text_alike, context_in_alike, switch_in_alike, number_in_alike}
 use Rattle.law_fiber.proofs.Calls.Going.{AlikeWent, Calls, Throws, went_from, carry_cut, carry_bound, carry_caught, followed, within_alike, past_alike, raises_alike, called_alike, asks_alike, with_value_alike, with_number_alike, at_place, by_length, either}
 
 -- ## Parts
@@ -41,7 +41,7 @@ all_see sight (AndBlock first rest) sees = λ k d less. all_with (SeesBlock sigh
 place_alike : {sight : Sight} {t : Tables} {these those : List Value} → AlikeVariables sight t these those → (directory : Directory)
     → SeesDirectory sight directory → place_in these directory ≡ place_in those directory
 place_alike variables (Declared number) sees = refl
-place_alike variables (Opened slot) sees = ap (λ n. ask.Opened n) (held_number_alike (variables.in_scope slot sees))
+place_alike variables (Opened slot) sees = ap (λ n. ask.Opened n) (number_in_alike (variables.in_scope slot sees))
 
 pub items_see : (sight : Sight) (body : Block) → SeesBlock sight body → SeesStatements sight (items_of body)
 unfolding SeesBlock
@@ -136,17 +136,17 @@ module _ {sight : Sight} where
     statement_alike (Sub body) c d sees carry = asks_alike (calls.Subs body sees) carry
     statement_alike (Protect body) c d sees carry = asks_alike (calls.Protects body sees) carry
     statement_alike (Cancel context text) c d sees carry =
-        on_slot held_context (λ n. ask.Cancel n text) (λ n. ask.Cancel n text) context (held_context_alike (carry.variables.in_scope context sees.0))
+        on_slot context_in (λ n. ask.Cancel n text) (λ n. ask.Cancel n text) context (context_in_alike (carry.variables.in_scope context sees.0))
         (λ n. calls.Cancels n (in_sight carry.tables text sees.1)) carry
     statement_alike (Switch body) c d sees carry = asks_alike (calls.Switches body sees) carry
     statement_alike (Fork forking switch body) c d sees carry =
-        on_slot held_switch (λ n. ask.Fork forking n body) (λ n. ask.Fork forking n body) switch (held_switch_alike (carry.variables.in_scope switch sees.0))
+        on_slot switch_in (λ n. ask.Fork forking n body) (λ n. ask.Fork forking n body) switch (switch_in_alike (carry.variables.in_scope switch sees.0))
         (λ n. calls.Forks forking n body sees.1) carry
     statement_alike (Fail switch text) c d sees carry =
-        on_slot held_switch (λ n. ask.Fail n text) (λ n. ask.Fail n text) switch (held_switch_alike (carry.variables.in_scope switch sees.0))
+        on_slot switch_in (λ n. ask.Fail n text) (λ n. ask.Fail n text) switch (switch_in_alike (carry.variables.in_scope switch sees.0))
         (λ n. calls.Fails n (in_sight carry.tables text sees.1)) carry
     statement_alike (OnRelease switch handler) c d sees carry =
-        on_slot held_switch (λ n. ask.OnRelease n handler) (λ n. ask.OnRelease n handler) switch (held_switch_alike (carry.variables.in_scope switch sees.0))
+        on_slot switch_in (λ n. ask.OnRelease n handler) (λ n. ask.OnRelease n handler) switch (switch_in_alike (carry.variables.in_scope switch sees.0))
         (λ n. calls.OnReleases n handler sees.1) carry
     statement_alike (Branches group branches) c d sees carry = branched_alike group branches sees carry
     statement_alike (OnObject call object) c d sees carry = asks_alike (calls.OnObjects call object) carry
@@ -166,17 +166,17 @@ module _ {sight : Sight} where
     statement_alike Now c d sees carry = asks_alike calls.Nows carry
     statement_alike (BufRead flow limit body) c d sees carry = asks_alike (calls.OpenReaders flow limit body sees) carry
     statement_alike (OnReader call reader) c d sees carry =
-        on_slot held_number (λ n. ask.OnReader call n) (λ n. ask.OnReader call n) reader (held_number_alike (carry.variables.in_scope reader sees))
+        on_slot number_in (λ n. ask.OnReader call n) (λ n. ask.OnReader call n) reader (number_in_alike (carry.variables.in_scope reader sees))
         (λ n. calls.OnReaders call n) carry
     statement_alike (TakeBytes reader count) c d sees carry =
         with_number_alike (number_alike carry.tables carry.variables count sees.1) carry (λ z.
-        on_slot held_number (λ n. ask.TakeBytes n z) (λ n. ask.TakeBytes n z) reader (held_number_alike (carry.variables.in_scope reader sees.0))
+        on_slot number_in (λ n. ask.TakeBytes n z) (λ n. ask.TakeBytes n z) reader (number_in_alike (carry.variables.in_scope reader sees.0))
         (λ n. calls.Takes n z) carry)
     statement_alike (Copy from to) c d sees carry = asks_alike (calls.Copies from to) carry
     statement_alike (BufWrite flow body) c d sees carry = asks_alike (calls.OpenWriters flow body sees) carry
     statement_alike (Put writer operand) c d sees carry =
         with_value_alike (text_alike carry.tables carry.variables operand sees.1) carry (λ a b alike.
-        on_slot held_number (λ n. ask.PutText n a) (λ n. ask.PutText n b) writer (held_number_alike (carry.variables.in_scope writer sees.0))
+        on_slot number_in (λ n. ask.PutText n a) (λ n. ask.PutText n b) writer (number_in_alike (carry.variables.in_scope writer sees.0))
         (λ n. calls.Puts n alike) carry)
     statement_alike (OpenDir directory path body) c d sees carry =
         with_value_alike (text_alike carry.tables carry.variables path sees.1) carry (λ a b alike.

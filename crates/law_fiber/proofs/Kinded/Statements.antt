@@ -11,7 +11,7 @@ use Rattle.spec_script.specs.Syntax as syntax
 use Rattle.spec_script.specs.Syntax.{Statement, Let, LetForm, If, Give, Raise, Try, Repeat, Loop, Trace, Yield, Check, AwaitCancel, Sub, Protect, Cancel, Switch, Fork, Fail, OnRelease, Branches, OnObject, OnObjectWith, UseRw, UsePool, Submit, Sleep, Now, BufRead, OnReader, TakeBytes, Copy, BufWrite, Put, OpenDir, OnPath, Save, Group, Any, Both, First, Directory, Declared, Opened, Block, Begins, Statements, Done, Then, Blocks, NoBlocks, AndBlock}
 use Rattle.law_script.specs.Scripts.Soundness.{IsSoundDirectory, HasItsBranches, block_count, behind, IsSoundStatement, IsSoundBlock, AreSoundStatements, AreSoundBlocks}
 use Rattle.spec_fiber.specs.Asks as ask
-use Rattle.spec_fiber.specs.Evaluation.{value_of, values_of, number_in, number_of, text_of}
+use Rattle.spec_fiber.specs.Evaluation.{value_of, values_of, held_number, number_of, text_of}
 use Rattle.spec_fiber.specs.Numbered.{blocks_of_statement, blocks_of_branches, blocks_from, blocks_of_statements}
 use Rattle.spec_fiber.specs.Silent.{Past, within, with_value, asks, blocks_of, place_in, is_zero, gives, items_of, repeated, branched, statement, block, statements}
 use Rattle.spec_fiber.specs.Work as work
@@ -280,12 +280,12 @@ module _ (facts : Facts) where
     statement_kinds (BufRead flow limit body) slots c fits has = asks_kinds facts c refl has (fits.0.0, fits.0.1, (fits.0.2, fits.1))
     statement_kinds (OnReader call reader) slots c fits has = asks_kinds facts c refl has (reader_named facts slots c.variables reader has fits.0)
     statement_kinds (TakeBytes reader count) slots c fits has =
-        with_value_kinds facts (number_of c.variables count) c (λ z. asks (ask.TakeBytes (number_in c.variables reader) z) c) has (λ z.
+        with_value_kinds facts (number_of c.variables count) c (λ z. asks (ask.TakeBytes (held_number c.variables reader) z) c) has (λ z.
         asks_kinds facts c refl has (reader_named facts slots c.variables reader has fits.0.0))
     statement_kinds (Copy from to) slots c fits has = asks_kinds facts c refl has fits.0
     statement_kinds (BufWrite flow body) slots c fits has = asks_kinds facts c refl has (fits.0.0, (fits.0.1, fits.1))
     statement_kinds (Put writer operand) slots c fits has =
-        with_value_kinds facts (text_of c.variables operand) c (λ text. asks (ask.PutText (number_in c.variables writer) text) c) has (λ text.
+        with_value_kinds facts (text_of c.variables operand) c (λ text. asks (ask.PutText (held_number c.variables writer) text) c) has (λ text.
         asks_kinds facts c refl has (writer_named facts slots c.variables writer has fits.0.0))
     statement_kinds (OpenDir directory path body) slots c fits has =
         with_value_kinds facts (text_of c.variables path) c (λ text. asks (ask.OpenDirectory (place_in c.variables directory) text body) c) has (λ text.

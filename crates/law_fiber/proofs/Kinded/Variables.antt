@@ -6,7 +6,7 @@ use Rattle.std.proofs.lemmas.Option.{none-some, same_Some}
 use Rattle.eio_value.specs.declared.value.Value.{Value}
 use Rattle.eio_value.specs.declared.value.Value.TheVariants as value
 use Rattle.spec_script.specs.Kinds.{Kind, VariableKind, ContextKind, SwitchKind, ReaderKind, WriterKind, CapabilityKind}
-use Rattle.spec_fiber.specs.Evaluation.{value_at, held_context, held_switch, held_number, context_in, switch_in, number_in}
+use Rattle.spec_fiber.specs.Evaluation.{value_at, context_in, switch_in, number_in, held_context, held_switch, held_number}
 use Rattle.law_fiber.specs.Kinded.Kinds.{Facts, HasKind, HasKinds, StartsWith, with_kind}
 
 -- ## Slots with more behind them
@@ -79,41 +79,41 @@ module _ (facts : Facts) where
   kind_at (first ∷ slots) (it ∷ variables) zero kind has is = subst (λ k. HasKind facts k it) (same_Some first kind is) has.0
   kind_at (first ∷ slots) (it ∷ variables) (suc slot) kind has is = kind_at slots variables slot kind has.1 is
 
-  held_context_named : (it : Value) → HasKind facts ContextKind it → facts.names ContextKind (held_context it)
-  held_context_named (value.Ctx number) has = has
-  held_context_named other has = absurd has
+  context_is_named : (it : Value) → HasKind facts ContextKind it → facts.names ContextKind (context_in it)
+  context_is_named (value.Ctx number) has = has
+  context_is_named other has = absurd has
 
-  held_switch_named : (it : Value) → HasKind facts SwitchKind it → facts.names SwitchKind (held_switch it)
-  held_switch_named (value.Switch number) has = has
-  held_switch_named other has = absurd has
+  switch_is_named : (it : Value) → HasKind facts SwitchKind it → facts.names SwitchKind (switch_in it)
+  switch_is_named (value.Switch number) has = has
+  switch_is_named other has = absurd has
 
-  held_reader_named : (it : Value) → HasKind facts ReaderKind it → facts.names ReaderKind (held_number it)
-  held_reader_named (value.Int (pos number)) has = has
-  held_reader_named other has = absurd has
+  reader_is_named : (it : Value) → HasKind facts ReaderKind it → facts.names ReaderKind (number_in it)
+  reader_is_named (value.Int (pos number)) has = has
+  reader_is_named other has = absurd has
 
-  held_writer_named : (it : Value) → HasKind facts WriterKind it → facts.names WriterKind (held_number it)
-  held_writer_named (value.Int (pos number)) has = has
-  held_writer_named other has = absurd has
+  writer_is_named : (it : Value) → HasKind facts WriterKind it → facts.names WriterKind (number_in it)
+  writer_is_named (value.Int (pos number)) has = has
+  writer_is_named other has = absurd has
 
-  held_capability_named : (it : Value) → HasKind facts CapabilityKind it → facts.names CapabilityKind (held_number it)
-  held_capability_named (value.Int (pos number)) has = has
-  held_capability_named other has = absurd has
+  capability_is_named : (it : Value) → HasKind facts CapabilityKind it → facts.names CapabilityKind (number_in it)
+  capability_is_named (value.Int (pos number)) has = has
+  capability_is_named other has = absurd has
 
   module _ (slots : List Kind) (variables : List Value) (slot : ℕ) (has : HasKinds facts slots variables) where
-    pub context_named : slice_get slots slot ≡ Some ContextKind → facts.names ContextKind (context_in variables slot)
-    context_named is = held_context_named (value_at variables slot) (kind_at slots variables slot ContextKind has is)
+    pub context_named : slice_get slots slot ≡ Some ContextKind → facts.names ContextKind (held_context variables slot)
+    context_named is = context_is_named (value_at variables slot) (kind_at slots variables slot ContextKind has is)
 
-    pub switch_named : slice_get slots slot ≡ Some SwitchKind → facts.names SwitchKind (switch_in variables slot)
-    switch_named is = held_switch_named (value_at variables slot) (kind_at slots variables slot SwitchKind has is)
+    pub switch_named : slice_get slots slot ≡ Some SwitchKind → facts.names SwitchKind (held_switch variables slot)
+    switch_named is = switch_is_named (value_at variables slot) (kind_at slots variables slot SwitchKind has is)
 
-    pub reader_named : slice_get slots slot ≡ Some ReaderKind → facts.names ReaderKind (number_in variables slot)
-    reader_named is = held_reader_named (value_at variables slot) (kind_at slots variables slot ReaderKind has is)
+    pub reader_named : slice_get slots slot ≡ Some ReaderKind → facts.names ReaderKind (held_number variables slot)
+    reader_named is = reader_is_named (value_at variables slot) (kind_at slots variables slot ReaderKind has is)
 
-    pub writer_named : slice_get slots slot ≡ Some WriterKind → facts.names WriterKind (number_in variables slot)
-    writer_named is = held_writer_named (value_at variables slot) (kind_at slots variables slot WriterKind has is)
+    pub writer_named : slice_get slots slot ≡ Some WriterKind → facts.names WriterKind (held_number variables slot)
+    writer_named is = writer_is_named (value_at variables slot) (kind_at slots variables slot WriterKind has is)
 
-    pub capability_named : slice_get slots slot ≡ Some CapabilityKind → facts.names CapabilityKind (number_in variables slot)
-    capability_named is = held_capability_named (value_at variables slot) (kind_at slots variables slot CapabilityKind has is)
+    pub capability_named : slice_get slots slot ≡ Some CapabilityKind → facts.names CapabilityKind (held_number variables slot)
+    capability_named is = capability_is_named (value_at variables slot) (kind_at slots variables slot CapabilityKind has is)
 
   -- values that are given to a job may be any
   pub any_kinds : (variables : List Value) (captured : List ℕ)

@@ -6,7 +6,7 @@ use Rattle.eio_value.specs.declared.value.Value.TheVariants as value
 use Rattle.spec_script.specs.Syntax as syntax
 use Rattle.spec_script.specs.Syntax.{Expression, Expressions, Statement, Let, LetForm, If, Give, Raise, Try, Repeat, Loop, Trace, Yield, Check, AwaitCancel, Sub, Protect, Cancel, Switch, Fork, Fail, OnRelease, Branches, OnObject, OnObjectWith, UseRw, UsePool, Submit, Sleep, Now, BufRead, OnReader, TakeBytes, Copy, BufWrite, Put, OpenDir, OnPath, Save, Group, Any, Both, First, Block, Begins, Statements, Done, Then, Blocks, NoBlocks, AndBlock}
 use Rattle.spec_fiber.specs.Asks as ask
-use Rattle.spec_fiber.specs.Evaluation.{value_at, value_of, values_of, number_in, number_of, text_of}
+use Rattle.spec_fiber.specs.Evaluation.{value_at, value_of, values_of, held_number, number_of, text_of}
 use Rattle.spec_fiber.specs.Silent.{Past, with_value, asks, blocks_of, place_in, is_zero, gives, items_of, repeats, repeated, branched, statement, block, statements}
 use Rattle.spec_fiber.specs.Work as work
 use Rattle.spec_fiber.specs.Work.{Work, Carry, bound, caught}
@@ -129,13 +129,13 @@ module _ (tables : Tables) where
     statement_texts (BufRead flow limit body) c is carry = asks_texts tables carry is
     statement_texts (OnReader call reader) c is carry = asks_texts tables carry tt
     statement_texts (TakeBytes reader count) c is carry =
-        with_value_texts tables Anything (number_of c.variables count) (λ z. asks (ask.TakeBytes (number_in c.variables reader) z) c) carry
+        with_value_texts tables Anything (number_of c.variables count) (λ z. asks (ask.TakeBytes (held_number c.variables reader) z) c) carry
         (number_evaluated carry count is) (λ z one. asks_texts tables carry tt)
     statement_texts (Copy from to) c is carry = asks_texts tables carry tt
     statement_texts (BufWrite flow body) c is carry = asks_texts tables carry is
     statement_texts (Put writer operand) c is carry =
         with_value_texts tables (tables.held c.texts).text (text_of c.variables operand)
-        (λ text. asks (ask.PutText (number_in c.variables writer) text) c) carry
+        (λ text. asks (ask.PutText (held_number c.variables writer) text) c) carry
         (text_evaluated carry operand is) (λ text one. asks_texts tables carry one)
     statement_texts (OpenDir directory path body) c is carry =
         with_value_texts tables (tables.held c.texts).text (text_of c.variables path)
