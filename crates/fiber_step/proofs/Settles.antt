@@ -114,17 +114,14 @@ one_more_raise nodes from shared between later mid new p t what so e is =
       parts = quiet_parts nodes later.texts t is.quiet;
     }
 
--- what is raised has its text in the table
-pub raise_has_text : (nodes : List Node) (texts : List (List ℕ)) (p : Progress) (what : Plain) → p ≡ progress.Raises what → HasItsParts nodes texts p → HasTextsOfPlain texts what
-raise_has_text nodes texts p what e parts = subst (λ x. HasItsParts nodes texts x) e parts
-
 pub has_called : (nodes : List Node) (from : Carry → Settled) (shared later : Shared) (new : KeptFrames) (p : Progress) (call : Ask) → p ≡ progress.Calls call → HasComeTo nodes from shared p new later
     → HasComeTo nodes from shared (progress.Calls call) new later
 has_called nodes from shared later new p call e so = subst (λ x. HasComeTo nodes from shared x new later) e so
 
 -- ## That the turns end
 
--- how much is left behind a turn: none behind a call, and a raise is still to be made before the silent work goes on
+-- how much is left behind a turn: nothing behind a call; and a raise that was said comes before the work, so it counts as one more.
+-- The work counts twice, since a turn that leaves less of it may say a raise
 abbrev pub left_behind : List Node → Progress → KeptFrames → ℕ
 left_behind nodes (progress.Calls call) kept = 0
 left_behind nodes (progress.GoesOn it) kept = 1 + (weight (works_of nodes kept.items) + weight (works_of nodes kept.items))

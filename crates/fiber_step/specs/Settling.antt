@@ -21,7 +21,7 @@ SettlesTo nodes came old shared call new later =
     (raises : List Member) → (others : List Member)
     × (next_call nodes came old (carried shared raises) ≡ record { call = ask_of nodes call; behind = works_of nodes new.items; carry = restored new.variables (carried later others) })
 
--- what the turns of a settling have come to, whose next call is given by `from`
+-- what the turns of a settling have come to, whose next call was given by `from` when it began
 pub record HasComeTo (nodes : List Node) (from : Carry → Settled) (shared : Shared) (it : Progress) (new : KeptFrames) (later : Shared) : Type 0 where
   pub next : LeadsTo from shared (next_behind nodes it new) later
   pub placed : ArePlaced nodes new.items

@@ -21,8 +21,8 @@ pub record IsGrown (old new : List (List ℕ)) : Type 0 where
 abbrev pub LeadsTo : (from : Carry → Settled) → Shared → (to : Carry → Settled) → Shared → Type 0
 LeadsTo from shared to later = (raises : List Member) → (others : List Member) × (from (carried shared raises) ≡ to (carried later others))
 
--- what one turn does that may put a text into the table, and may make a raise that the turn before it said; it says no raise itself.
--- `from` gives the next call of where the fiber stood
+-- what an exception comes to, or a new raise: it may put a text into the table and take the next raise's number, and raises nothing more.
+-- The next call was given by `from`
 pub record IsTurnWith (nodes : List Node) (from : KeptFrames → Carry → Settled) (old : KeptFrames) (shared : Shared) (it : Progress) (new : KeptFrames) (later : Shared) : Type 0 where
   pub next : LeadsTo (from old) shared (next_behind nodes it new) later
   pub placed : ArePlaced nodes old.items → ArePlaced nodes new.items

@@ -45,12 +45,7 @@ impl<'f> FiberDraft<'f> {
     }
 
     /// What a mark does that was taken.
-    fn take_mark(
-        &mut self,
-        script: &Script,
-        mark: Mark,
-        value: Value,
-    ) -> Result<Progress, NoMemory>
+    fn take_mark(&mut self, script: &Script, mark: Mark, value: Value) -> Result<Progress, NoMemory>
         requires { IsPlacedMark (nodes_of script.now) mark }
         ensures fiber { OnOk result (self.new.fiber ≡ self.old.fiber) }
         ensures turn { IfOk result (λ it. IsTurnOrRaise (nodes_of script.now) script.now.texts (outcome.Ok value) (with_mark mark self.old.now) it self.new.now) }
@@ -62,6 +57,9 @@ impl<'f> FiberDraft<'f> {
     }
 
     /// What first comes of a value or an exception.
+    ///
+    /// # Errors
+    /// [`NoMemory`] where memory runs out, or the numbers of texts.
     fn receive(&mut self, came: &Outcome, texts: &mut Texts) -> Result<Progress, NoMemory>
         requires { HasTextsOfOutcome texts.old came.now }
         ensures fiber { OnOk result (self.new.fiber ≡ self.old.fiber) }

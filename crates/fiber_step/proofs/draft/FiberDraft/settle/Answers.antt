@@ -1,7 +1,5 @@
 use Rattle.std.proofs.Common.{◌∙◌}
 use Rattle.script_forms.specs.Flat.{nodes_of}
-use Rattle.fiber_step.specs.Throwing.{shared_by}
-use Rattle.fiber_step.specs.Turning.{next_call}
 use Rattle.fiber_step.proofs.Settles.{one_more_turn, one_more_raise, has_called, turn_smaller, raise_smaller, long_enough}
 use Rattle.fiber_step.proofs.Throws.{grown_then}
 use Rattle.fiber_step.proofs.draft.FiberDraft.settle.Goals as goal
@@ -21,6 +19,9 @@ turns-preserved-in-GoesOn c = (
   c.turns.invariant.2,
   one_more_turn _ _ _ _ _ _ _ _ _ _ c.turns.invariant.3 c.in-GoesOn.is c.turns.invariant.2 c.in_ok-progress-in-GoesOn.ensures.turn,
 )
+
+pub turns-smaller-in-GoesOn : goal.turns-smaller-in-GoesOn
+turns-smaller-in-GoesOn c = turn_smaller _ _ _ _ _ _ c.in-GoesOn.is c.in_ok-progress-in-GoesOn.ensures.turn.lighter
 
 pub turns-smaller : goal.turns-smaller
 turns-smaller c = raise_smaller _ _ _ _ _ _ c.in-Raises.is (c.in_ok-progress-in-Raises.ensures.turn (nodes_of c.args.script.now)).lighter
