@@ -47,7 +47,7 @@ past_done old it = λ nodes number is bodies light. record {
   next = λ c. ap (λ (w : Went). goes w (works_of nodes old.items)) (is (restored old.variables c) refl);
   placed = λ all. all;
   lighter = let some = some_weight (statement_at nodes number) in omega (arith, some);
-  bodies = tt;
+  quiet = tt;
 }
 
 named_done : (old : KeptFrames) (it : Value) → IsDoneBy (step.Named it) old (progress.GoesOn value.Unit) (naming it old)
@@ -56,7 +56,7 @@ named_done old it = λ nodes number is bodies light. record {
       ∙ ap (λ those. answered (works_of nodes old.items) value.Unit (restored (those ++ it ∷ []) c)) (take-length old.variables);
   placed = λ all. all;
   lighter = let some = some_weight (statement_at nodes number) in omega (arith, some);
-  bodies = tt;
+  quiet = tt;
 }
 
 calls_done : (old : KeptFrames) (call : Ask) → IsDoneBy (step.Calls call) old (progress.Calls call) old
@@ -64,7 +64,7 @@ calls_done old call = λ nodes number is bodies light. record {
   next = λ c. ap (λ (w : Went). goes w (works_of nodes old.items)) (is (restored old.variables c) refl);
   placed = λ all. all;
   lighter = tt;
-  bodies = bodies;
+  quiet = bodies;
 }
 
 -- ## Blocks
@@ -79,7 +79,7 @@ block_done old body = λ nodes number is bodies light.
           ∙ ap (λ these. answered these value.Unit (restored old.variables c)) (block_works nodes end body old));
       placed = λ all. block_placed nodes end body old all bodies (placed_mark nodes end old.items all (tt, tt));
       lighter = let sum = block_weight nodes end body old in omega (arith, sum, light);
-      bodies = tt;
+      quiet = tt;
     }
 
 tried_done : (old : KeptFrames) (tried handler : ℕ) → IsDoneBy (step.Tried tried handler) old (progress.GoesOn value.Unit) (gone_into (mark.Try handler (length old.variables)) tried old)
@@ -92,7 +92,7 @@ tried_done old tried handler = λ nodes number is bodies light.
           ∙ ap (λ these. answered these value.Unit (restored old.variables c)) (block_works nodes end tried old));
       placed = λ all. block_placed nodes end tried old all bodies.0 (placed_mark nodes end old.items all (bodies.1, tt));
       lighter = let sum = block_weight nodes end tried old in omega (arith, sum, light);
-      bodies = tt;
+      quiet = tt;
     }
 
 -- ## Loops
@@ -106,7 +106,7 @@ looped_done old body = λ nodes number is bodies light.
           ∙ ap (λ these. let s : Settled = record { call = model.Turn; behind = these; carry = restored old.variables c } in s) (block_works nodes end body old);
       placed = λ all. block_placed nodes end body old all bodies (placed_mark nodes end old.items all (bodies, tt));
       lighter = tt;
-      bodies = tt;
+      quiet = tt;
     }
 
 few_left : (left : ℕ) → left + 1 < 2 ^ 63 → 1 + left < 2 ^ 63
@@ -123,7 +123,7 @@ repeated_done old left body = λ nodes number is bodies light.
           ∙ ap (λ these. let s : Settled = record { call = model.Turn; behind = these; carry = restored named.variables c } in s) (block_works nodes end body named));
       placed = λ all. block_placed nodes end body named all bodies.0 (placed_mark nodes end old.items all (bodies.0, few_left left bodies.1));
       lighter = tt;
-      bodies = tt;
+      quiet = tt;
     }
 
 -- ## Blocks that begin once something is had
@@ -135,7 +135,7 @@ locks_done old mutex body = λ nodes number is bodies light. record {
       ∙ ap (λ these. let s : Settled = record { call = model.OnObject syntax.Lock mutex; behind = these; carry = restored old.variables c } in s) (sym (next_item nodes old.items (item.Mark (mark.Locking mutex body))));
   placed = λ all. placed_mark nodes (mark.Locking mutex body) old.items all (bodies, tt);
   lighter = tt;
-  bodies = tt;
+  quiet = tt;
 }
 
 uses_done : (old : KeptFrames) (pool body : ℕ) → IsDoneBy (step.Uses pool body) old (progress.Calls (ask.Use pool)) (with_mark (mark.Using pool body) old)
@@ -145,7 +145,7 @@ uses_done old pool body = λ nodes number is bodies light. record {
       ∙ ap (λ these. let s : Settled = record { call = model.Use pool; behind = these; carry = restored old.variables c } in s) (sym (next_item nodes old.items (item.Mark (mark.Using pool body))));
   placed = λ all. placed_mark nodes (mark.Using pool body) old.items all (bodies, tt);
   lighter = tt;
-  bodies = tt;
+  quiet = tt;
 }
 
 -- ## By what the code does

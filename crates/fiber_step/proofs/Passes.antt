@@ -60,7 +60,7 @@ end_turns nodes came it old end ends bodies = record {
   next = λ c. mark_next nodes came it old c ∙ (ends nodes (works_of nodes old.items) (restored old.variables c) ∙ kept_same nodes (ask_of nodes end.call) end.keep old c);
   placed = λ all. kept_placed nodes end.keep old (mark_placed nodes it old all).0;
   lighter = tt;
-  bodies = bodies;
+  quiet = bodies;
 }
 
 -- ## Ends of blocks that do nothing more
@@ -71,7 +71,7 @@ cut_turns nodes old keep it = record {
   next = λ c. mark_next nodes (outcome.Ok it) (mark.Cut keep) old c;
   placed = λ all. (mark_placed nodes (mark.Cut keep) old all).0;
   lighter = let sum = mark_weight nodes (mark.Cut keep) old in omega (arith, sum);
-  bodies = tt;
+  quiet = tt;
 }
 
 try_turns : (nodes : List Node) (old : KeptFrames) (handler keep : ℕ) (it : Value) → IsTurn nodes (outcome.Ok it) (with_mark (mark.Try handler keep) old) (progress.GoesOn it) (cut_to keep old)
@@ -80,7 +80,7 @@ try_turns nodes old handler keep it = record {
   next = λ c. mark_next nodes (outcome.Ok it) (mark.Try handler keep) old c;
   placed = λ all. (mark_placed nodes (mark.Try handler keep) old all).0;
   lighter = let sum = mark_weight nodes (mark.Try handler keep) old in omega (arith, sum);
-  bodies = tt;
+  quiet = tt;
 }
 
 bind_turns : (nodes : List Node) (old : KeptFrames) (slot : ℕ) (it : Value) → IsTurn nodes (outcome.Ok it) (with_mark (mark.Bind slot) old) (progress.GoesOn value.Unit) (naming it (cut_to slot old))
@@ -89,7 +89,7 @@ bind_turns nodes old slot it = record {
   next = λ c. mark_next nodes (outcome.Ok it) (mark.Bind slot) old c;
   placed = λ all. (mark_placed nodes (mark.Bind slot) old all).0;
   lighter = let sum = mark_weight nodes (mark.Bind slot) old in omega (arith, sum);
-  bodies = tt;
+  quiet = tt;
 }
 
 -- ## Turns of loops
@@ -102,7 +102,7 @@ loop_turns nodes old body keep it = record {
       ∙ ap (λ these. let s : Settled = record { call = model.Turn; behind = these; carry = cut keep (restored old.variables c) } in s) (block_works nodes (mark.Loop body keep) body (cut_to keep old));
   placed = λ all. let was = mark_placed nodes (mark.Loop body keep) old all in block_placed nodes (mark.Loop body keep) body (cut_to keep old) was.0 was.1.0 all;
   lighter = tt;
-  bodies = tt;
+  quiet = tt;
 }
 
 last_turn : (nodes : List Node) (old : KeptFrames) (turn_number body keep : ℕ) (it : Value)
@@ -112,7 +112,7 @@ last_turn nodes old turn_number body keep it = record {
   next = λ c. mark_next nodes (outcome.Ok it) (mark.Repeat turn_number 0 body keep) old c;
   placed = λ all. (mark_placed nodes (mark.Repeat turn_number 0 body keep) old all).0;
   lighter = let sum = mark_weight nodes (mark.Repeat turn_number 0 body keep) old in omega (arith, sum);
-  bodies = tt;
+  quiet = tt;
 }
 
 pub no_turn_left : (nodes : List Node) (old : KeptFrames) (turn_number left body keep : ℕ) (it : Value) → left ≡ 0
@@ -133,7 +133,7 @@ another_turn nodes old turn_number left body keep it few =
       placed = λ all. let was = mark_placed nodes (mark.Repeat turn_number (suc left) body keep) old all in
           block_placed nodes end body named was.0 was.1.0 (placed_mark nodes end old.items was.0 (was.1.0, omega (arith, few)));
       lighter = tt;
-      bodies = tt;
+      quiet = tt;
     }
 
 pub turn_left : (nodes : List Node) (old : KeptFrames) (turn_number left body keep : ℕ) (it : Value) → turn_number + left < 2 ^ 63 → 0 < left
@@ -158,7 +158,7 @@ lock_turns nodes old mutex body it =
       placed = λ all. let was = mark_placed nodes (mark.Locking mutex body) old all in
           block_placed nodes end body old was.0 was.1.0 (placed_mark nodes end old.items was.0 (tt, tt));
       lighter = let sum = mark_weight nodes (mark.Locking mutex body) old in let less = block_weight nodes end body old in omega (arith, sum, less);
-      bodies = tt;
+      quiet = tt;
     }
 
 use_turns : (nodes : List Node) (old : KeptFrames) (pool body : ℕ) (it : Value)
@@ -174,7 +174,7 @@ use_turns nodes old pool body it =
       placed = λ all. let was = mark_placed nodes (mark.Using pool body) old all in
           block_placed nodes end body named was.0 was.1.0 (placed_mark nodes end old.items was.0 (tt, tt));
       lighter = let sum = mark_weight nodes (mark.Using pool body) old in let less = block_weight nodes end body named in omega (arith, sum, less);
-      bodies = tt;
+      quiet = tt;
     }
 
 -- ## By what the code does

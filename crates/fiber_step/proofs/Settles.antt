@@ -1,10 +1,13 @@
 -- A settling goes on in turns.
-use Rattle.std.proofs.Common.{◌≡◌, ◌<◌, ◌≤◌, ℕ, List, [], ◌∷◌, ◌++◌, length, false, refl, sym, ap, ◌∙◌, subst, arith, length-append}
+use Rattle.std.proofs.Common.{◌≡◌, ◌<◌, ◌≤◌, ◌+◌, ℕ, List, [], ◌∷◌, ◌++◌, length, false, refl, sym, ap, ◌∙◌, subst, arith, length-append}
 use Rattle.std.proofs.lemmas.List.Elements.{All-pop}
 use Rattle.std.proofs.Common.{Some}
-use Rattle.eio_value.specs.declared.plain.Member.{Member}
+use Rattle.eio_value.specs.Exceptions.{HasTextsOfPlain}
+use Rattle.eio_value.specs.declared.plain.Plain.{Plain}
+use Rattle.eio_value.specs.declared.plain.Plain.TheVariants.{Failure, Path}
 use Rattle.eio_value.specs.declared.raised.Outcome.{Outcome}
 use Rattle.eio_value.specs.declared.raised.Outcome.TheVariants as outcome
+use Rattle.eio_value.specs.declared.raised.Raised.{Raised}
 use Rattle.eio_value.specs.declared.value.Value.{Value}
 use Rattle.script_forms.specs.declared.node.Node.{Node}
 use Rattle.spec_fiber.specs.Asks as model
@@ -12,11 +15,10 @@ use Rattle.spec_fiber.specs.Settling.{Settled, answered}
 use Rattle.spec_fiber.specs.Work.{Carry, restored}
 use Rattle.fiber_step.specs.Framing.{KeptFrames}
 use Rattle.fiber_step.specs.Placing.{IsPlaced, IsPlacedMark, ArePlaced}
-use Rattle.fiber_step.specs.Settling.{SettlesTo}
+use Rattle.fiber_step.specs.Settling.{HasComeTo}
 use Rattle.fiber_step.specs.Standing.{works_of}
-use Rattle.fiber_step.specs.Stepping.{HasBodiesOf}
 use Rattle.fiber_step.specs.Throwing.{IsGrown, IsTurnWith}
-use Rattle.fiber_step.specs.Turning.{Shared, carried, with_mark, next_call, is_run}
+use Rattle.fiber_step.specs.Turning.{Shared, carried, with_mark, next_call, next_behind, IsTurnOrRaise, IsLighter, HasItsParts, is_run}
 use Rattle.fiber_step.specs.Weighing.{weight}
 use Rattle.fiber_step.specs.declared.ask.Ask.{Ask}
 use Rattle.fiber_step.specs.declared.ask.Ask.TheVariants as ask
@@ -26,8 +28,7 @@ use Rattle.fiber_step.specs.declared.mark.Mark.TheVariants as mark
 use Rattle.fiber_step.specs.declared.progress.Progress.{Progress}
 use Rattle.fiber_step.specs.declared.progress.Progress.TheVariants as progress
 use Rattle.fiber_step.proofs.Positions.{next_item}
-use Rattle.fiber_step.proofs.Throws.{turn_with}
-use Rattle.fiber_step.proofs.Turns.{mark_placed}
+use Rattle.fiber_step.proofs.Turns.{mark_placed, quiet_parts}
 
 -- ## One turn
 
@@ -39,12 +40,11 @@ none_left nodes it kept c none =
     ap (λ these. answered (works_of nodes these) it (restored kept.variables c)) none
     ∙ ap (λ these. let s : Settled = record { call = model.End (outcome.Ok it); behind = works_of nodes these; carry = restored kept.variables c } in s) (sym none)
 
-pub ends : (nodes : List Node) (it : Value) (old new : KeptFrames) (shared : Shared) → old.items ≡ [] → new ≡ old
-    → IsTurnWith nodes (outcome.Ok it) old shared (progress.Calls (ask.End (outcome.Ok it))) new shared
-ends nodes it old new shared none same =
-    subst (λ k. IsTurnWith nodes (outcome.Ok it) old shared (progress.Calls (ask.End (outcome.Ok it))) k shared) (sym same)
-    (turn_with nodes (outcome.Ok it) old old (progress.Calls (ask.End (outcome.Ok it))) shared
-    (record { next = λ c. none_left nodes it old c none; placed = λ all. all; lighter = tt; bodies = tt }))
+pub ends : (nodes : List Node) (texts : List (List ℕ)) (it : Value) (old new : KeptFrames) → old.items ≡ [] → new ≡ old
+    → IsTurnOrRaise nodes texts (outcome.Ok it) old (progress.Calls (ask.End (outcome.Ok it))) new
+ends nodes texts it old new none same =
+    let stays : IsTurnOrRaise nodes texts (outcome.Ok it) old (progress.Calls (ask.End (outcome.Ok it))) old = record { next = λ c. none_left nodes it old c none; placed = λ all. all; lighter = tt; parts = tt } in
+    subst (λ k. IsTurnOrRaise nodes texts (outcome.Ok it) old (progress.Calls (ask.End (outcome.Ok it))) k) (sym same) stays
 
 -- the variables are back that were a fiber's
 restored_next : (nodes : List Node) (it : Value) (old new : KeptFrames) (c : Carry) → old.items ≡ new.items ++ item.Restore new.variables ∷ []
@@ -53,76 +53,93 @@ unfolding answered
 restored_next nodes it old new c e =
     ap (λ work. answered work it (restored old.variables c)) (ap (works_of nodes) e ∙ next_item nodes new.items (item.Restore new.variables))
 
-pub restores : (nodes : List Node) (it : Value) (old new : KeptFrames) (shared : Shared) → old.items ≡ new.items ++ item.Restore new.variables ∷ []
-    → IsTurnWith nodes (outcome.Ok it) old shared (progress.GoesOn it) new shared
-restores nodes it old new shared e =
+pub restores : (nodes : List Node) (texts : List (List ℕ)) (it : Value) (old new : KeptFrames) → old.items ≡ new.items ++ item.Restore new.variables ∷ []
+    → IsTurnOrRaise nodes texts (outcome.Ok it) old (progress.GoesOn it) new
+restores nodes texts it old new e =
     let sum = ap weight (ap (works_of nodes) e ∙ next_item nodes new.items (item.Restore new.variables)) in
-    turn_with nodes (outcome.Ok it) old new (progress.GoesOn it) shared (record {
+    record {
       next = λ c. restored_next nodes it old new c e;
       placed = λ all. (All-pop (IsPlaced nodes) old.items new.items (Some (item.Restore new.variables)) e all).0;
       lighter = omega (arith, sum);
-      bodies = tt;
-    })
+      parts = tt;
+    }
 
 -- by where the fiber stood before the mark was taken
-pub taken_turn : (nodes : List Node) (came : Outcome) (old mid new : KeptFrames) (it : Mark) (t : Progress) (shared later : Shared) → old ≡ with_mark it mid
-    → IsTurnWith nodes came (with_mark it mid) shared t new later → IsTurnWith nodes came old shared t new later
-taken_turn nodes came old mid new it t shared later e is = subst (λ k. IsTurnWith nodes came k shared t new later) (sym e) is
+pub taken_turn : (nodes : List Node) (texts : List (List ℕ)) (came : Outcome) (old mid new : KeptFrames) (it : Mark) (t : Progress) → old ≡ with_mark it mid
+    → IsTurnOrRaise nodes texts came (with_mark it mid) t new → IsTurnOrRaise nodes texts came old t new
+taken_turn nodes texts came old mid new it t e is = subst (λ k. IsTurnOrRaise nodes texts came k t new) (sym e) is
+
+-- ## What a settling comes to at first
+
+pub value_came : (nodes : List Node) (came : Outcome) (old : KeptFrames) (shared : Shared) (it : Value) → came ≡ outcome.Ok it → ArePlaced nodes old.items
+    → HasComeTo nodes (next_call nodes came old) shared (progress.GoesOn it) old shared
+value_came nodes came old shared it e all = record { next = λ raises. (raises, ap (λ x. next_call nodes x old (carried shared raises)) e); placed = all; parts = tt }
+
+pub exception_came : (nodes : List Node) (came : Outcome) (raised : Raised) (old new : KeptFrames) (shared later : Shared) (t : Progress) → came ≡ outcome.Err raised → ArePlaced nodes old.items
+    → IsTurnWith nodes (next_call nodes (outcome.Err raised)) old shared t new later → HasComeTo nodes (next_call nodes came old) shared t new later
+exception_came nodes came raised old new shared later t e all is =
+    let thrown : HasComeTo nodes (next_call nodes (outcome.Err raised) old) shared t new later = record { next = is.next; placed = is.placed all; parts = quiet_parts nodes later.texts t is.quiet } in
+    subst (λ x. HasComeTo nodes (next_call nodes x old) shared t new later) (sym e) thrown
 
 -- ## Turn by turn
 
--- what is left to do behind a turn that makes no call
-pub record GoesOnTo (nodes : List Node) (came : Outcome) (old : KeptFrames) (shared : Shared) (it : Value) (new : KeptFrames) (later : Shared) : Type 0 where
-  pub next : (raises : List Member) → (others : List Member) × (next_call nodes came old (carried shared raises) ≡ next_call nodes (outcome.Ok it) new (carried later others))
-  pub placed : ArePlaced nodes new.items
+-- a longer table has the texts too
+texts_longer : (texts longer : List (List ℕ)) (what : Plain) → length texts ≤ length longer → HasTextsOfPlain texts what → HasTextsOfPlain longer what
+texts_longer texts longer (Failure id) less has = omega (arith, less, has)
+texts_longer texts longer (Path fault id) less has = omega (arith, less, has)
+texts_longer texts longer other less has = tt
 
-pub none_yet : (nodes : List Node) (came : Outcome) (old : KeptFrames) (shared : Shared) (it : Value) → came ≡ outcome.Ok it → ArePlaced nodes old.items → GoesOnTo nodes came old shared it old shared
-none_yet nodes came old shared it e all = record { next = λ raises. (raises, ap (λ x. next_call nodes x old (carried shared raises)) e); placed = all }
+parts_longer : (nodes : List Node) (texts longer : List (List ℕ)) (t : Progress) → length texts ≤ length longer → HasItsParts nodes texts t → HasItsParts nodes longer t
+parts_longer nodes texts longer (progress.GoesOn it) less parts = tt
+parts_longer nodes texts longer (progress.Calls call) less parts = parts
+parts_longer nodes texts longer (progress.Raises what) less parts = texts_longer texts longer what less parts
 
-pub one_more_turn : (nodes : List Node) (came : Outcome) (old mid new : KeptFrames) (shared between later : Shared) (it next : Value) (t : Progress) → GoesOnTo nodes came old shared it mid between
-    → IsTurnWith nodes (outcome.Ok it) mid between t new later → t ≡ progress.GoesOn next → GoesOnTo nodes came old shared next new later
-one_more_turn nodes came old mid new shared between later it next t so is e =
-    let goes = subst (λ x. IsTurnWith nodes (outcome.Ok it) mid between x new later) e is in
+pub one_more_turn : (nodes : List Node) (texts : List (List ℕ)) (from : Carry → Settled) (shared later : Shared) (mid new : KeptFrames) (p t : Progress) (it : Value) → HasComeTo nodes from shared p mid later
+    → p ≡ progress.GoesOn it → length texts ≤ length later.texts → IsTurnOrRaise nodes texts (outcome.Ok it) mid t new → HasComeTo nodes from shared t new later
+one_more_turn nodes texts from shared later mid new p t it so e less is =
+    let before = subst (λ x. HasComeTo nodes from shared x mid later) e so in
     record {
-      next = λ raises. let first = so.next raises in let second = goes.next first.0 in (second.0, first.1 ∙ second.1);
-      placed = goes.placed so.placed;
+      next = λ raises. let first = before.next raises in (first.0, first.1 ∙ is.next (carried later first.0));
+      placed = is.placed before.placed;
+      parts = parts_longer nodes texts later.texts t less is.parts;
     }
 
-pub record Calls (nodes : List Node) (came : Outcome) (old : KeptFrames) (shared : Shared) (call : Ask) (new : KeptFrames) (later : Shared) : Type 0 where
-  pub settled : SettlesTo nodes came old shared call new later
-  pub placed : ArePlaced nodes new.items
-  pub bodies : HasBodiesOf nodes call
-
-pub last_turn : (nodes : List Node) (came : Outcome) (old mid new : KeptFrames) (shared between later : Shared) (it : Value) (call : Ask) (t : Progress) → GoesOnTo nodes came old shared it mid between
-    → IsTurnWith nodes (outcome.Ok it) mid between t new later → t ≡ progress.Calls call → Calls nodes came old shared call new later
-last_turn nodes came old mid new shared between later it call t so is e =
-    let goes = subst (λ x. IsTurnWith nodes (outcome.Ok it) mid between x new later) e is in
+pub one_more_raise : (nodes : List Node) (from : Carry → Settled) (shared between later : Shared) (mid new : KeptFrames) (p t : Progress) (what : Plain) → HasComeTo nodes from shared p mid between
+    → p ≡ progress.Raises what → IsTurnWith nodes (next_behind nodes (progress.Raises what)) mid between t new later → HasComeTo nodes from shared t new later
+one_more_raise nodes from shared between later mid new p t what so e is =
+    let before = subst (λ x. HasComeTo nodes from shared x mid between) e so in
     record {
-      settled = λ raises. let first = so.next raises in let second = goes.next first.0 in (second.0, first.1 ∙ second.1);
-      placed = goes.placed so.placed;
-      bodies = goes.bodies;
+      next = λ raises. let first = before.next raises in let second = is.next first.0 in (second.0, first.1 ∙ second.1);
+      placed = is.placed before.placed;
+      parts = quiet_parts nodes later.texts t is.quiet;
     }
 
-pub turn_lighter : (nodes : List Node) (mid new : KeptFrames) (between later : Shared) (it next : Value) (t : Progress) → IsTurnWith nodes (outcome.Ok it) mid between t new later → t ≡ progress.GoesOn next
-    → weight (works_of nodes new.items) < weight (works_of nodes mid.items)
-turn_lighter nodes mid new between later it next t is e = (subst (λ x. IsTurnWith nodes (outcome.Ok it) mid between x new later) e is).lighter
+pub has_called : (nodes : List Node) (from : Carry → Settled) (shared later : Shared) (new : KeptFrames) (p : Progress) (call : Ask) → p ≡ progress.Calls call → HasComeTo nodes from shared p new later
+    → HasComeTo nodes from shared (progress.Calls call) new later
+has_called nodes from shared later new p call e so = subst (λ x. HasComeTo nodes from shared x new later) e so
 
--- ## What an exception came to at first
+-- ## That the turns end
 
-pub thrown_on : (nodes : List Node) (came : Outcome) (old mid new : KeptFrames) (shared between later : Shared) (it : Value) (call : Ask) (t : Progress) → IsTurnWith nodes came old shared t mid between → t ≡ progress.GoesOn it
-    → SettlesTo nodes (outcome.Ok it) mid between call new later → SettlesTo nodes came old shared call new later
-thrown_on nodes came old mid new shared between later it call t is e settled =
-    let goes = subst (λ x. IsTurnWith nodes came old shared x mid between) e is in
-    λ raises. let first = goes.next raises in let second = settled first.0 in (second.0, first.1 ∙ second.1)
+-- how much is left behind a turn: nothing behind a call; and a raise that was said comes before the work, so it counts as one more.
+-- The work counts twice, since a turn that leaves less of it may say a raise
+abbrev pub left_behind : List Node → Progress → KeptFrames → ℕ
+left_behind nodes (progress.Calls call) kept = 0
+left_behind nodes (progress.GoesOn it) kept = 1 + (weight (works_of nodes kept.items) + weight (works_of nodes kept.items))
+left_behind nodes (progress.Raises what) kept = 2 + (weight (works_of nodes kept.items) + weight (works_of nodes kept.items))
 
-pub thrown_placed : (nodes : List Node) (came : Outcome) (old mid : KeptFrames) (shared between : Shared) (t : Progress) → IsTurnWith nodes came old shared t mid between → ArePlaced nodes old.items → ArePlaced nodes mid.items
-thrown_placed nodes came old mid shared between t is all = is.placed all
+less_left : (nodes : List Node) (mid new : KeptFrames) (t : Progress) → IsLighter nodes mid t new → left_behind nodes t new < 1 + (weight (works_of nodes mid.items) + weight (works_of nodes mid.items))
+less_left nodes mid new (progress.Calls call) lighter = omega arith
+less_left nodes mid new (progress.GoesOn it) lighter = omega (arith, lighter)
+less_left nodes mid new (progress.Raises what) lighter = omega (arith, lighter)
 
-pub thrown_calls : (nodes : List Node) (came : Outcome) (old new : KeptFrames) (shared later : Shared) (call : Ask) (t : Progress) → IsTurnWith nodes came old shared t new later → t ≡ progress.Calls call → ArePlaced nodes old.items
-    → Calls nodes came old shared call new later
-thrown_calls nodes came old new shared later call t is e all =
-    let goes = subst (λ x. IsTurnWith nodes came old shared x new later) e is in
-    record { settled = goes.next; placed = goes.placed all; bodies = goes.bodies }
+pub turn_smaller : (nodes : List Node) (mid new : KeptFrames) (p t : Progress) (it : Value) → p ≡ progress.GoesOn it → IsLighter nodes mid t new → left_behind nodes t new < left_behind nodes p mid
+turn_smaller nodes mid new p t it e lighter = subst (λ x. left_behind nodes t new < left_behind nodes x mid) (sym e) (less_left nodes mid new t lighter)
+
+pub raise_smaller : (nodes : List Node) (mid new : KeptFrames) (p t : Progress) (what : Plain) → p ≡ progress.Raises what → IsLighter nodes mid t new → left_behind nodes t new < left_behind nodes p mid
+raise_smaller nodes mid new p t what e lighter =
+    let less = less_left nodes mid new t lighter in
+    let more : left_behind nodes t new < left_behind nodes (progress.Raises what) mid = omega (arith, less) in
+    subst (λ x. left_behind nodes t new < left_behind nodes x mid) (sym e) more
 
 -- ## The table
 

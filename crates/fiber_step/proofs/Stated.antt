@@ -1,8 +1,10 @@
 -- What the statements that are left of a block do.
 use Rattle.std.proofs.Common.{◌≡◌, ◌<◌, ◌≤◌, ◌+◌, ◌-◌, ℕ, zero, suc, List, [], ◌∷◌, ◌++◌, length, drop, Bool, true, false, Some, refl, sym, ap, ◌∙◌, subst, arith}
 use Rattle.std.specs.Prelude.{slice_get}
+use Rattle.eio_value.specs.Exceptions.{HasTextsOfPlain}
+use Rattle.eio_value.specs.declared.plain.Misuse.{Misuse}
 use Rattle.eio_value.specs.declared.plain.Plain.{Plain}
-use Rattle.eio_value.specs.declared.plain.Plain.TheVariants.{Failure}
+use Rattle.eio_value.specs.declared.plain.Plain.TheVariants.{Failure, Invalid}
 use Rattle.eio_value.specs.declared.raised.Outcome.TheVariants as outcome
 use Rattle.eio_value.specs.declared.value.TextId.{TextId}
 use Rattle.eio_value.specs.declared.value.Value.{Value}
@@ -26,10 +28,9 @@ use Rattle.fiber_step.specs.Having.{HasExpression, BeginsStatement, HasStatement
 use Rattle.fiber_step.specs.Framing.{KeptFrames}
 use Rattle.fiber_step.specs.Placing.{ArePlaced}
 use Rattle.fiber_step.specs.Standing.{works_of}
-use Rattle.fiber_step.specs.Stating.{lets_of, bound_by, IsBehindLets, IsForm, NoGive, binding, IsDone, IsDoneBy, IsSilentStep, IsLastStep, RaisesWithin}
+use Rattle.fiber_step.specs.Stating.{lets_of, bound_by, IsBehindLets, IsForm, NoGive, binding, IsDone, IsDoneBy, IsSilentStep, IsLastStep}
 use Rattle.fiber_step.specs.Stepping.{IsStep, IsStepped, IsAfter, HasBodies, HasText}
-use Rattle.fiber_step.specs.Throwing.{IsTurnWith, IsStatedWith}
-use Rattle.fiber_step.specs.Turning.{with_mark, Shared, carried, IsTurn, IsLighter}
+use Rattle.fiber_step.specs.Turning.{with_mark, IsTurn, IsTurnOrRaise, IsLighter}
 use Rattle.fiber_step.specs.Weighing.{weight_of_statement, weight_of_statements, weight}
 use Rattle.fiber_step.specs.declared.item.Item.TheVariants as item
 use Rattle.fiber_step.specs.declared.mark.Mark.TheVariants as mark
@@ -42,8 +43,7 @@ use Rattle.fiber_step.proofs.Dones.{some_weight}
 use Rattle.fiber_step.proofs.MarksAgree.{marks_agree}
 use Rattle.fiber_step.proofs.Parts.{has_parts, begins}
 use Rattle.fiber_step.proofs.Positions.{next_item}
-use Rattle.fiber_step.proofs.Throws.{turn_with}
-use Rattle.fiber_step.proofs.Turns.{mark_next, mark_weight, mark_placed, placed_mark}
+use Rattle.fiber_step.proofs.Turns.{mark_next, mark_weight, mark_placed, placed_mark, turn_or_raise}
 
 -- ## Which statement gives its block's value
 
@@ -201,6 +201,7 @@ run_weight nodes at form after old f = mark_weight nodes (mark.Run at) old ∙ a
 formed_lighter : (nodes : List Node) (at form after : ℕ) (old new : KeptFrames) (t : Progress) (f : Formed nodes at form after) → IsDone nodes form (binding f.lets (with_mark (mark.Run after) old)) t new
     → IsLighter nodes (with_mark (mark.Run at) old) t new
 formed_lighter nodes at form after old new (progress.Calls call) f done = tt
+formed_lighter nodes at form after old new (progress.Raises what) f done = absurd done.quiet
 formed_lighter nodes at form after old new (progress.GoesOn it) f done =
     let less = done.lighter in
     let inner = binding_weight nodes f.lets (with_mark (mark.Run after) old) in
@@ -222,7 +223,7 @@ formed_turn nodes at form after lets old mid new it t f has many same done =
       placed = λ all. let was = mark_placed nodes (mark.Run at) old all in
           is.placed (binding_placed nodes f.lets (with_mark (mark.Run after) old) (placed_mark nodes (mark.Run after) old.items was.0 (has, tt)));
       lighter = formed_lighter nodes at form after old new t f is;
-      bodies = is.bodies;
+      quiet = is.quiet;
     }
 
 -- ## A statement that raises
@@ -249,52 +250,45 @@ unfolding thrown
 first_raises it rest behind before c what true e raised = marks_agree.given it rest behind before c e ∙ ap (λ (w : Went). goes w behind) raised
 first_raises it rest behind before c what false e raised = marks_agree.rest it rest behind before c e ∙ ap (λ (w : Went). goes w (work.Run rest ∷ behind)) raised
 
-lighter_raise : (nodes : List Node) (old new : KeptFrames) (t : Progress) (at : ℕ) → IsLighter nodes old t new → IsLighter nodes (with_mark (mark.Run at) old) t new
-lighter_raise nodes old new (progress.Calls call) at less = tt
-lighter_raise nodes old new (progress.GoesOn it) at less = let sum = mark_weight nodes (mark.Run at) old in omega (arith, less, sum)
-
 -- the first statement of those that are left
-pub raising_turn : (nodes : List Node) (at : ℕ) (old new : KeptFrames) (it : Value) (t : Progress) (shared later : Shared) (what : Plain) (first : Statement) (rest : Statements)
-    → statements_at nodes at ≡ Then first rest → ((c : Carry) → c.variables ≡ old.variables → statement first c ≡ raises what c)
-    → IsStatedWith nodes (raises what) old shared t new later → IsTurnWith nodes (outcome.Ok it) (with_mark (mark.Run at) old) shared t new later
-raising_turn nodes at old new it t shared later what first rest is raised stated = record {
-  next = λ before. let found = stated.next before in let c = restored old.variables (carried shared before) in (
-    found.0,
-    mark_next nodes (outcome.Ok it) (mark.Run at) old (carried shared before)
-        ∙ (ap (λ items. answered (work.Run items ∷ works_of nodes old.items) it c) is
-        ∙ (first_raises first rest (works_of nodes old.items) it c what (gives first) refl (raised c refl) ∙ found.1)),
-  );
-  placed = λ all. stated.placed (mark_placed nodes (mark.Run at) old all).0;
-  lighter = lighter_raise nodes old new t at stated.lighter;
-  bodies = stated.bodies;
+pub raising_turn : (nodes : List Node) (texts : List (List ℕ)) (at : ℕ) (old : KeptFrames) (it : Value) (what : Plain) (first : Statement) (rest : Statements)
+    → statements_at nodes at ≡ Then first rest → ((c : Carry) → c.variables ≡ old.variables → statement first c ≡ raises what c) → HasTextsOfPlain texts what
+    → IsTurnOrRaise nodes texts (outcome.Ok it) (with_mark (mark.Run at) old) (progress.Raises what) old
+unfolding weight_of_statements
+raising_turn nodes texts at old it what first rest is raised has = record {
+  next = λ c. let d = restored old.variables c in
+      mark_next nodes (outcome.Ok it) (mark.Run at) old c
+      ∙ (ap (λ items. answered (work.Run items ∷ works_of nodes old.items) it d) is
+      ∙ first_raises first rest (works_of nodes old.items) it d what (gives first) refl (raised d refl));
+  placed = λ all. (mark_placed nodes (mark.Run at) old all).0;
+  lighter = let sum = mark_weight nodes (mark.Run at) old in let these = ap weight_of_statements is in let some = some_weight first in omega (arith, sum, these, some);
+  parts = has;
 }
 
 -- a form behind lets
-pub form_raises : (nodes : List Node) (at form : ℕ) (old new : KeptFrames) (it : Value) (t : Progress) (shared later : Shared) (what : Plain) → IsForm nodes at form
-    → ((c : Carry) → c.variables ≡ old.variables → statement (statement_at nodes form) c ≡ raises what c)
-    → IsStatedWith nodes (raises what) old shared t new later → IsTurnWith nodes (outcome.Ok it) (with_mark (mark.Run at) old) shared t new later
-form_raises nodes at form old new it t shared later what is raised stated =
+pub form_raises : (nodes : List Node) (texts : List (List ℕ)) (at form : ℕ) (old : KeptFrames) (it : Value) (what : Plain) → IsForm nodes at form
+    → ((c : Carry) → c.variables ≡ old.variables → statement (statement_at nodes form) c ≡ raises what c) → HasTextsOfPlain texts what
+    → IsTurnOrRaise nodes texts (outcome.Ok it) (with_mark (mark.Run at) old) (progress.Raises what) old
+form_raises nodes texts at form old it what is raised has =
     let here = is.behind.begins in
-    raising_turn nodes at old new it t shared later what (lets_of is.behind.lets (statement_at nodes form)) here.others
+    raising_turn nodes texts at old it what (lets_of is.behind.lets (statement_at nodes form)) here.others
     (is.behind.is ∙ (ap (bound_by is.behind.lets) (begins_first nodes form here) ∙ bound_first is.behind.lets (statement_at nodes form) here.others))
-    (λ c same. lets_raise is.behind.lets (statement_at nodes form) c what (raised c same)) stated
+    (λ c same. lets_raise is.behind.lets (statement_at nodes form) c what (raised c same)) has
 
 -- ## The end of a block, and what gives its value
 
-pub block_ends : (nodes : List Node) (at : ℕ) (n : Node) (old : KeptFrames) (it : Value) (shared : Shared) → Stands nodes at n → n ≡ node.End
-    → IsTurnWith nodes (outcome.Ok it) (with_mark (mark.Run at) old) shared (progress.GoesOn value.Unit) old shared
+pub block_ends : (nodes : List Node) (texts : List (List ℕ)) (at : ℕ) (n : Node) (old : KeptFrames) (it : Value) → Stands nodes at n → n ≡ node.End
+    → IsTurnOrRaise nodes texts (outcome.Ok it) (with_mark (mark.Run at) old) (progress.GoesOn value.Unit) old
 unfolding weight_of_statements
-block_ends nodes at n old it shared stands is =
+block_ends nodes texts at n old it stands is =
     let says : statements_at nodes at ≡ Done = subst (λ m. Stands nodes at m) is stands in
     record {
-      next = λ before. let c = restored old.variables (carried shared before) in (
-        before,
-        mark_next nodes (outcome.Ok it) (mark.Run at) old (carried shared before)
-            ∙ (ap (λ items. answered (work.Run items ∷ works_of nodes old.items) it c) says ∙ marks_agree.unit (works_of nodes old.items) it c),
-      );
+      next = λ c. let d = restored old.variables c in
+          mark_next nodes (outcome.Ok it) (mark.Run at) old c
+          ∙ (ap (λ items. answered (work.Run items ∷ works_of nodes old.items) it d) says ∙ marks_agree.unit (works_of nodes old.items) it d);
       placed = λ all. (mark_placed nodes (mark.Run at) old all).0;
       lighter = let sum = mark_weight nodes (mark.Run at) old in let one = ap weight_of_statements says in omega (arith, sum, one);
-      bodies = tt;
+      parts = tt;
     }
 
 give_goes : (e : Expression) (c : Carry) (v : Value) (variables : List Value) → Is v ≡ value_of variables e → c.variables ≡ variables → statement (Give e) c ≡ Past v c
@@ -305,28 +299,24 @@ give_throws : (e : Expression) (c : Carry) (what : Plain) (variables : List Valu
 unfolding statement
 give_throws e c what variables is same = ap (λ those. with_value (value_of those e) c (λ it. Past it c)) same ∙ ap (λ (found : Evaluated Value). with_value found c (λ it. Past it c)) (sym is)
 
-pub give_turn : (nodes : List Node) (at : ℕ) (old : KeptFrames) (it v : Value) (shared : Shared) → Stands nodes at node.Give → Is v ≡ value_of old.variables (expression_at nodes (at + 1))
-    → IsTurnWith nodes (outcome.Ok it) (with_mark (mark.Run at) old) shared (progress.GoesOn v) old shared
+pub give_turn : (nodes : List Node) (texts : List (List ℕ)) (at : ℕ) (old : KeptFrames) (it v : Value) → Stands nodes at node.Give → Is v ≡ value_of old.variables (expression_at nodes (at + 1))
+    → IsTurnOrRaise nodes texts (outcome.Ok it) (with_mark (mark.Run at) old) (progress.GoesOn v) old
 unfolding weight_of_statements
-give_turn nodes at old it v shared says gives_it =
-    record {
-      next = λ before. let c = restored old.variables (carried shared before) in (
-        before,
-        mark_next nodes (outcome.Ok it) (mark.Run at) old (carried shared before)
-            ∙ (ap (λ items. answered (work.Run items ∷ works_of nodes old.items) it c) says
-            ∙ (marks_agree.given (Give (expression_at nodes (at + 1))) (statements_at nodes (behind_expression nodes (at + 1))) (works_of nodes old.items) it c refl
-            ∙ ap (λ (w : Went). goes w (works_of nodes old.items)) (give_goes (expression_at nodes (at + 1)) c v old.variables gives_it refl))),
-      );
-      placed = λ all. (mark_placed nodes (mark.Run at) old all).0;
-      lighter = let sum = mark_weight nodes (mark.Run at) old in let rest = ap weight_of_statements says in let some = some_weight (Give (expression_at nodes (at + 1))) in omega (arith, sum, rest, some);
-      bodies = tt;
-    }
+give_turn nodes texts at old it v says gives_it = record {
+  next = λ c. let d = restored old.variables c in
+      mark_next nodes (outcome.Ok it) (mark.Run at) old c
+      ∙ (ap (λ items. answered (work.Run items ∷ works_of nodes old.items) it d) says
+      ∙ (marks_agree.given (Give (expression_at nodes (at + 1))) (statements_at nodes (behind_expression nodes (at + 1))) (works_of nodes old.items) it d refl
+      ∙ ap (λ (w : Went). goes w (works_of nodes old.items)) (give_goes (expression_at nodes (at + 1)) d v old.variables gives_it refl)));
+  placed = λ all. (mark_placed nodes (mark.Run at) old all).0;
+  lighter = let sum = mark_weight nodes (mark.Run at) old in let rest = ap weight_of_statements says in let some = some_weight (Give (expression_at nodes (at + 1))) in omega (arith, sum, rest, some);
+  parts = tt;
+}
 
-pub give_raises : (nodes : List Node) (at : ℕ) (old new : KeptFrames) (it : Value) (t : Progress) (shared later : Shared) (what : Plain) → Stands nodes at node.Give
-    → Raises what ≡ value_of old.variables (expression_at nodes (at + 1))
-    → IsStatedWith nodes (raises what) old shared t new later → IsTurnWith nodes (outcome.Ok it) (with_mark (mark.Run at) old) shared t new later
-give_raises nodes at old new it t shared later what says raised stated =
-    raising_turn nodes at old new it t shared later what _ _ says (λ c same. give_throws (expression_at nodes (at + 1)) c what old.variables raised same) stated
+pub give_raises : (nodes : List Node) (texts : List (List ℕ)) (at : ℕ) (old : KeptFrames) (it : Value) (why : Misuse) → Stands nodes at node.Give
+    → Raises (Invalid why) ≡ value_of old.variables (expression_at nodes (at + 1)) → IsTurnOrRaise nodes texts (outcome.Ok it) (with_mark (mark.Run at) old) (progress.Raises (Invalid why)) old
+give_raises nodes texts at old it why says raised =
+    raising_turn nodes texts at old it (Invalid why) _ _ says (λ c same. give_throws (expression_at nodes (at + 1)) c (Invalid why) old.variables raised same) tt
 
 -- ## Steps
 
@@ -358,20 +348,6 @@ silent_step (step.Uses pool body) last quiet = tt
 silent_step (step.Raises text) last quiet = quiet text refl
 silent_step (step.Calls call) last quiet = tt
 
--- the text that it raises has a number below that of a longer table
-pub raises_within : (count texts : ℕ) (s : Step) → HasText count s → count ≤ texts → RaisesWithin texts s
-raises_within count texts (step.Past it) has less = tt
-raises_within count texts (step.Named it) has less = tt
-raises_within count texts step.Form has less = tt
-raises_within count texts (step.Block body) has less = tt
-raises_within count texts (step.Tried tried handler) has less = tt
-raises_within count texts (step.Looped body) has less = tt
-raises_within count texts (step.Repeated left body) has less = tt
-raises_within count texts (step.Locks mutex body) has less = tt
-raises_within count texts (step.Uses pool body) has less = tt
-raises_within count texts (step.Raises text) has less = omega (arith, has, less)
-raises_within count texts (step.Calls call) has less = tt
-
 -- what stands behind its statement
 pub step_after : (nodes : List Node) (number after : ℕ) (s : Step) → IsAfter nodes number s after → IsLastStep s
     → (statements_at nodes number ≡ Then (statement_at nodes number) (statements_at nodes after)) × HasStatements nodes after
@@ -392,23 +368,22 @@ binding_variables zero kept = refl
 binding_variables (suc n) kept = binding_variables n (with_mark (mark.Bind (length kept.variables)) kept)
 
 -- a statement that raises nothing, by what its step did
-pub step_turns : (nodes : List Node) (count at form lets : ℕ) (stepped : Stepped) (old mid new : KeptFrames) (it : Value) (t : Progress) (shared : Shared) → IsForm nodes at form → NoGive nodes at
-    → IsStepped nodes count form old.variables stepped → IsLastStep stepped.step → lets ≡ form - at → mid ≡ binding lets (with_mark (mark.Run stepped.after) old) → IsDoneBy stepped.step mid t new
-    → IsTurnWith nodes (outcome.Ok it) (with_mark (mark.Run at) old) shared t new shared
-step_turns nodes count at form lets stepped old mid new it t shared is first found last many same done =
+pub step_turns : (nodes : List Node) (texts : List (List ℕ)) (at form lets : ℕ) (stepped : Stepped) (old mid new : KeptFrames) (it : Value) (t : Progress) → IsForm nodes at form → NoGive nodes at
+    → IsStepped nodes (length texts) form old.variables stepped → IsLastStep stepped.step → lets ≡ form - at → mid ≡ binding lets (with_mark (mark.Run stepped.after) old) → IsDoneBy stepped.step mid t new
+    → IsTurnOrRaise nodes texts (outcome.Ok it) (with_mark (mark.Run at) old) t new
+step_turns nodes texts at form lets stepped old mid new it t is first found last many same done =
     let after = step_after nodes form stepped.after stepped.step found.after last in
     let f = formed nodes at form stepped.after first.first is after.0 first.is first.stands first.other in
     let variables : old.variables ≡ mid.variables = sym (ap (λ (k : KeptFrames). k.variables) same ∙ binding_variables lets (with_mark (mark.Run stepped.after) old)) in
     let goes = subst (λ those. IsStep nodes form those stepped.step) variables found.is in
-    turn_with nodes (outcome.Ok it) (with_mark (mark.Run at) old) new t shared
+    turn_or_raise nodes texts (outcome.Ok it) (with_mark (mark.Run at) old) new t
     (formed_turn nodes at form stepped.after lets old mid new it t f after.1 many same (done nodes form goes found.bodies found.light))
 
 -- a form behind lets that raises a text
-pub step_raises : (nodes : List Node) (count at form : ℕ) (stepped : Stepped) (text : TextId) (old new : KeptFrames) (it : Value) (t : Progress) (shared later : Shared) → IsForm nodes at form
-    → IsStepped nodes count form old.variables stepped → stepped.step ≡ step.Raises text → IsStatedWith nodes (raises (Failure text)) old shared t new later
-    → IsTurnWith nodes (outcome.Ok it) (with_mark (mark.Run at) old) shared t new later
-step_raises nodes count at form stepped text old new it t shared later is found e stated =
-    form_raises nodes at form old new it t shared later (Failure text) is (subst (λ s. IsStep nodes form old.variables s) e found.is) stated
+pub step_raises : (nodes : List Node) (texts : List (List ℕ)) (at form : ℕ) (stepped : Stepped) (text : TextId) (old : KeptFrames) (it : Value) → IsForm nodes at form
+    → IsStepped nodes (length texts) form old.variables stepped → stepped.step ≡ step.Raises text → IsTurnOrRaise nodes texts (outcome.Ok it) (with_mark (mark.Run at) old) (progress.Raises (Failure text)) old
+step_raises nodes texts at form stepped text old it is found e =
+    form_raises nodes texts at form old it (Failure text) is (subst (λ s. IsStep nodes form old.variables s) e found.is) (subst (λ s. HasText (length texts) s) e found.text)
 
 -- ## The nodes of statements
 

@@ -17,13 +17,13 @@ use Rattle.script_code.specs.Standing.{statements_at}
 use Rattle.script_forms.specs.declared.node.Node.{Node}
 use Rattle.spec_fiber.specs.Asks as model
 use Rattle.spec_fiber.specs.Settling.{Settled, answered, thrown}
-use Rattle.spec_fiber.specs.Silent.{raises, block}
+use Rattle.spec_fiber.specs.Silent.{block}
 use Rattle.spec_fiber.specs.Work as work
 use Rattle.spec_fiber.specs.Work.{Carry, restored, bound}
 use Rattle.fiber_step.specs.Framing.{KeptFrames}
 use Rattle.fiber_step.specs.Standing.{works_of, is_end}
-use Rattle.fiber_step.specs.Throwing.{shared_by, IsGrown, IsTurnWith, IsStatedWith}
-use Rattle.fiber_step.specs.Turning.{with_mark, next_call, gone_into, cut_to, naming, carried, Shared, IsLighter, IsTurn}
+use Rattle.fiber_step.specs.Throwing.{shared_by, IsGrown, IsTurnWith}
+use Rattle.fiber_step.specs.Turning.{with_mark, next_call, next_behind, gone_into, cut_to, naming, carried, Shared, IsLighter, IsTurn}
 use Rattle.fiber_step.specs.Unwinding.{stops, IsDropped}
 use Rattle.fiber_step.specs.Weighing.{weight_of_block, weight}
 use Rattle.fiber_step.specs.declared.ask.Ask.TheVariants as ask
@@ -56,21 +56,22 @@ interned_grown texts later text id e = subst (λ these. IsGrown texts these) (sy
 
 -- ## Turns of an exception
 
-pub turn_with : (nodes : List Node) (came : Outcome) (old new : KeptFrames) (t : Progress) (shared : Shared) → IsTurn nodes came old t new → IsTurnWith nodes came old shared t new shared
-turn_with nodes came old new t shared is = record { next = λ before. (before, is.next (carried shared before)); placed = is.placed; lighter = is.lighter; bodies = is.bodies }
+pub turn_with : (nodes : List Node) (came : Outcome) (old new : KeptFrames) (t : Progress) (shared : Shared) → IsTurn nodes came old t new → IsTurnWith nodes (next_call nodes came) old shared t new shared
+turn_with nodes came old new t shared is = record { next = λ before. (before, is.next (carried shared before)); placed = is.placed; lighter = is.lighter; quiet = is.quiet }
 
 lighter_than : (nodes : List Node) (old mid new : KeptFrames) (t : Progress) → weight (works_of nodes mid.items) ≤ weight (works_of nodes old.items) → IsLighter nodes mid t new → IsLighter nodes old t new
 lighter_than nodes old mid new (progress.GoesOn it) less lighter = omega (arith, less, lighter)
 lighter_than nodes old mid new (progress.Calls call) less lighter = tt
+lighter_than nodes old mid new (progress.Raises what) less lighter = omega (arith, less, lighter)
 
 -- behind what an exception drops
 pub dropped_turn : (nodes : List Node) (raised : Raised) (old mid new : KeptFrames) (t : Progress) (shared later : Shared) → IsDropped old mid
-    → IsTurnWith nodes (outcome.Err raised) mid shared t new later → IsTurnWith nodes (outcome.Err raised) old shared t new later
+    → IsTurnWith nodes (next_call nodes (outcome.Err raised)) mid shared t new later → IsTurnWith nodes (next_call nodes (outcome.Err raised)) old shared t new later
 dropped_turn nodes raised old mid new t shared later dropped is = record {
   next = λ before. let found = is.next before in (found.0, dropped.same nodes raised (carried shared before) ∙ found.1);
   placed = λ all. is.placed (dropped.placed nodes all);
   lighter = lighter_than nodes old mid new t (dropped.lighter nodes) is.lighter;
-  bodies = is.bodies;
+  quiet = is.quiet;
 }
 
 none_left : (nodes : List Node) (raised : Raised) (kept : KeptFrames) (c : Carry) → kept.items ≡ []
@@ -82,12 +83,12 @@ none_left nodes raised kept c none =
 
 -- it ends a fiber that has no work
 pub ends_fiber : (nodes : List Node) (raised : Raised) (kept : KeptFrames) (shared : Shared) → kept.items ≡ []
-    → IsTurnWith nodes (outcome.Err raised) kept shared (progress.Calls (ask.End (outcome.Err raised))) kept shared
+    → IsTurnWith nodes (next_call nodes (outcome.Err raised)) kept shared (progress.Calls (ask.End (outcome.Err raised))) kept shared
 ends_fiber nodes raised kept shared none = record {
   next = λ before. (before, none_left nodes raised kept (carried shared before) none);
   placed = λ all. all;
   lighter = tt;
-  bodies = tt;
+  quiet = tt;
 }
 
 -- it is caught
@@ -103,7 +104,7 @@ caught_next nodes raised handler keep serial texts later id old before interned 
 
 pub caught_turn : (nodes : List Node) (raised : Raised) (handler keep serial : ℕ) (texts later : List (List ℕ)) (id : TextId) (old : KeptFrames)
     → (let i : Interned = record { id = id; texts = later } in i ≡ intern texts (bound_text texts raised))
-    → IsTurnWith nodes (outcome.Err raised) (with_mark (mark.Try handler keep) old) (shared_by texts serial) (progress.GoesOn value.Unit)
+    → IsTurnWith nodes (next_call nodes (outcome.Err raised)) (with_mark (mark.Try handler keep) old) (shared_by texts serial) (progress.GoesOn value.Unit)
     (gone_into (mark.Cut keep) handler (naming (value.Text id) (cut_to keep old))) (shared_by later serial)
 unfolding weight_of_block
 caught_turn nodes raised handler keep serial texts later id old interned =
@@ -117,16 +118,16 @@ caught_turn nodes raised handler keep serial texts later id old interned =
       );
       placed = λ all. let was = mark_placed nodes (mark.Try handler keep) old all in block_placed nodes end handler named was.0 was.1.0 (placed_mark nodes end old.items was.0 (tt, tt));
       lighter = let sum = mark_weight nodes (mark.Try handler keep) old in let less = block_weight nodes end handler named in omega (arith, sum, less);
-      bodies = tt;
+      quiet = tt;
     }
 
 -- a new raise
 pub raised_turn : (nodes : List Node) (what : Plain) (old new : KeptFrames) (t : Progress) (texts : List (List ℕ)) (serial : ℕ) (later : Shared)
-    → (let x : Member = record { serial = serial; what = what } in IsTurnWith nodes (outcome.Err (One x)) old (shared_by texts (serial + 1)) t new later)
-    → IsStatedWith nodes (raises what) old (shared_by texts serial) t new later
+    → (let x : Member = record { serial = serial; what = what } in IsTurnWith nodes (next_call nodes (outcome.Err (One x))) old (shared_by texts (serial + 1)) t new later)
+    → IsTurnWith nodes (next_behind nodes (progress.Raises what)) old (shared_by texts serial) t new later
 raised_turn nodes what old new t texts serial later is =
     let x : Member = record { serial = serial; what = what } in
-    record { next = λ before. is.next (before ++ x ∷ []); placed = is.placed; lighter = is.lighter; bodies = is.bodies }
+    record { next = λ before. is.next (before ++ x ∷ []); placed = is.placed; lighter = is.lighter; quiet = is.quiet }
 
 -- a mark at which an exception stops, and which isn't an end, is that of a `try`
 pub is_try : (it : Mark) → stops it ≡ true → is_end it ≡ false → ((handler keep : ℕ) → it ≡ mark.Try handler keep → ⊥) → ⊥

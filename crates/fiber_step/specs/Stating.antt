@@ -14,7 +14,7 @@ use Rattle.fiber_step.specs.Framing.{KeptFrames}
 use Rattle.fiber_step.specs.Placing.{ArePlaced}
 use Rattle.fiber_step.specs.Standing.{works_of}
 use Rattle.fiber_step.specs.Stepping.{IsStep, IsLight, HasBodies}
-use Rattle.fiber_step.specs.Turning.{with_mark, next_behind, HasItsBodies}
+use Rattle.fiber_step.specs.Turning.{with_mark, next_behind, RaisesNothing}
 use Rattle.fiber_step.specs.Weighing.{weight_of_statement, weight}
 use Rattle.fiber_step.specs.declared.mark.Mark.TheVariants as mark
 use Rattle.fiber_step.specs.declared.step.Step.{Step}
@@ -65,22 +65,17 @@ IsLastStep step.Form = ⊥
 IsLastStep (step.Repeated left body) = left + 1 < 2 ^ 63
 IsLastStep other = Unit {0}
 
--- the text that is raised, if one is, has a number below this
-abbrev pub RaisesWithin : (texts : ℕ) → Step → Type 0
-RaisesWithin texts (step.Raises text) = text.0 < texts
-RaisesWithin texts other = Unit {0}
-
 -- less work is left than the statement was
 abbrev pub IsLighterBy : List Node → (number : ℕ) → (old : KeptFrames) → Progress → (new : KeptFrames) → Type 0
-IsLighterBy nodes number old (progress.GoesOn it) new = weight (works_of nodes new.items) < weight_of_statement (statement_at nodes number) + weight (works_of nodes old.items)
 IsLighterBy nodes number old (progress.Calls call) new = Unit {0}
+IsLighterBy nodes number old other new = weight (works_of nodes new.items) < weight_of_statement (statement_at nodes number) + weight (works_of nodes old.items)
 
--- the statement at this number comes to this
+-- the statement at this number comes to this, and raises nothing
 pub record IsDone (nodes : List Node) (number : ℕ) (old : KeptFrames) (it : Progress) (new : KeptFrames) : Type 0 where
   pub next : (c : Carry) → goes (statement (statement_at nodes number) (restored old.variables c)) (works_of nodes old.items) ≡ next_behind nodes it new c
   pub placed : ArePlaced nodes old.items → ArePlaced nodes new.items
   pub lighter : IsLighterBy nodes number old it new
-  pub bodies : HasItsBodies nodes it
+  pub quiet : RaisesNothing nodes it
 
 -- a step is done, of whatever statement it is
 abbrev pub IsDoneBy : Step → (old : KeptFrames) → Progress → (new : KeptFrames) → Type 0

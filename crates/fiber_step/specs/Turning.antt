@@ -1,13 +1,16 @@
 -- What one turn of a settling does: an item is taken, and the next call is the same from where the fiber stands then.
 use Rattle.std.specs.Prelude.{◌≡◌, ◌<◌, ℕ, Bool, true, false, List, [], ◌∷◌, ◌++◌, take, Option, Some, None}
+use Rattle.eio_value.specs.Exceptions.{HasTextsOfPlain}
 use Rattle.eio_value.specs.declared.plain.Member.{Member}
 use Rattle.eio_value.specs.declared.raised.Outcome.{Outcome}
 use Rattle.eio_value.specs.declared.value.Value.{Value}
 use Rattle.script_forms.specs.declared.node.Node.{Node}
 use Rattle.spec_fiber.specs.Replies.{passed}
 use Rattle.spec_fiber.specs.Settling.{Settled, answered}
+use Rattle.spec_fiber.specs.Silent.{raises}
 use Rattle.spec_fiber.specs.Work.{Carry, restored}
 use Rattle.fiber_step.specs.Framing.{KeptFrames}
+use Rattle.fiber_step.specs.Going.{goes}
 use Rattle.fiber_step.specs.Placing.{ArePlaced}
 use Rattle.fiber_step.specs.Standing.{ask_of, works_of}
 use Rattle.fiber_step.specs.Stepping.{HasBodiesOf}
@@ -39,25 +42,28 @@ next_call nodes came kept c = passed came (works_of nodes kept.items) (restored 
 abbrev pub next_behind : List Node → Progress → KeptFrames → Carry → Settled
 next_behind nodes (progress.GoesOn it) kept c = answered (works_of nodes kept.items) it (restored kept.variables c)
 next_behind nodes (progress.Calls call) kept c = record { call = ask_of nodes call; behind = works_of nodes kept.items; carry = restored kept.variables c }
+next_behind nodes (progress.Raises what) kept c = goes (raises what (restored kept.variables c)) (works_of nodes kept.items)
 
--- a turn that raises nothing and leaves the table as it is
+-- a turn that leaves the table as it is, and makes no raise itself: it may say what is to be raised
 abbrev pub Turns : List Node → Outcome → (old : KeptFrames) → Progress → (new : KeptFrames) → Type 0
 Turns nodes came old turn new = (c : Carry) → next_call nodes came old c ≡ next_behind nodes turn new c
 
--- a turn that may raise, and may put a text into the table
-abbrev pub TurnsWith : List Node → Outcome → (old : KeptFrames) → Shared → Progress → (new : KeptFrames) → Shared → Type 0
-TurnsWith nodes came old shared turn new later =
-    (raises : List Member) → (others : List Member) × (next_call nodes came old (carried shared raises) ≡ next_behind nodes turn new (carried later others))
-
 -- less silent work is left, where a turn makes no call
 abbrev pub IsLighter : List Node → (old : KeptFrames) → Progress → (new : KeptFrames) → Type 0
-IsLighter nodes old (progress.GoesOn it) new = weight (works_of nodes new.items) < weight (works_of nodes old.items)
 IsLighter nodes old (progress.Calls call) new = Unit {0}
+IsLighter nodes old other new = weight (works_of nodes new.items) < weight (works_of nodes old.items)
 
--- the blocks of the call of a turn stand among the nodes
-abbrev pub HasItsBodies : List Node → Progress → Type 0
-HasItsBodies nodes (progress.GoesOn it) = Unit {0}
-HasItsBodies nodes (progress.Calls call) = HasBodiesOf nodes call
+-- nothing is raised, and the blocks of the call stand among the nodes
+abbrev pub RaisesNothing : List Node → Progress → Type 0
+RaisesNothing nodes (progress.GoesOn it) = Unit {0}
+RaisesNothing nodes (progress.Calls call) = HasBodiesOf nodes call
+RaisesNothing nodes (progress.Raises what) = ⊥
+
+-- the blocks of the call stand among the nodes, and the table has the text of what is raised
+abbrev pub HasItsParts : List Node → (texts : List (List ℕ)) → Progress → Type 0
+HasItsParts nodes texts (progress.GoesOn it) = Unit {0}
+HasItsParts nodes texts (progress.Calls call) = HasBodiesOf nodes call
+HasItsParts nodes texts (progress.Raises what) = HasTextsOfPlain texts what
 
 -- before a block, with this mark at its end
 abbrev pub gone_into : (end : Mark) → (body : ℕ) → KeptFrames → KeptFrames
@@ -74,12 +80,19 @@ abbrev pub kept_to : Option ℕ → KeptFrames → KeptFrames
 kept_to None kept = kept
 kept_to (Some keep) kept = cut_to keep kept
 
--- what one turn does, that this comes to
+-- what one turn does that comes to this and raises nothing
 pub record IsTurn (nodes : List Node) (came : Outcome) (old : KeptFrames) (it : Progress) (new : KeptFrames) : Type 0 where
   pub next : Turns nodes came old it new
   pub placed : ArePlaced nodes old.items → ArePlaced nodes new.items
   pub lighter : IsLighter nodes old it new
-  pub bodies : HasItsBodies nodes it
+  pub quiet : RaisesNothing nodes it
+
+-- what one turn does that comes to this, which may be a raise, of a text that the table has
+pub record IsTurnOrRaise (nodes : List Node) (texts : List (List ℕ)) (came : Outcome) (old : KeptFrames) (it : Progress) (new : KeptFrames) : Type 0 where
+  pub next : Turns nodes came old it new
+  pub placed : ArePlaced nodes old.items → ArePlaced nodes new.items
+  pub lighter : IsLighter nodes old it new
+  pub parts : HasItsParts nodes texts it
 
 -- whether a mark begins statements
 abbrev pub is_run : Mark → Bool

@@ -1,7 +1,7 @@
 //! What one turn of a settling comes to.
 
 use crate::ask::Ask;
-use eio_value::Value;
+use eio_value::{Plain, Value};
 
 /// What one turn of a settling comes to.
 #[derive(Clone, Copy)]
@@ -10,4 +10,6 @@ pub(crate) enum Progress {
     GoesOn(Value),
     /// It is the fiber's next call.
     Calls(Ask),
+    /// This is raised anew, under the number of the next raise.
+    Raises(Plain),
 }

@@ -2,13 +2,15 @@
 //!
 //! A settling goes on in turns, each of which takes the next item of work. Its theorem is the clause `settled` of
 //! [`Fiber::settle`], and the invariant of its loop is an equation: the next call is the same from where the draft stands.
+//!
+//! A turn only says what is to be raised. The loop makes the raise, since it alone has the table of texts and the number of the
+//! next raise.
 
 ghost use Rattle.std.specs.Prelude.{◌≡◌, ◌≤◌, ◌<◌, ◌^◌, length, IfOk, OnOk, OnErr};
-ghost use Rattle.eio_value.specs.Exceptions.{HasTextsOfRaised};
 ghost use Rattle.fiber_step.specs.Placing.{IsPlacedMark, ArePlaced};
 ghost use Rattle.fiber_step.specs.Settling.{SettlesTo, HasTextsOfOutcome};
 ghost use Rattle.fiber_step.specs.Stepping.{HasBodiesOf};
-ghost use Rattle.fiber_step.specs.Throwing.{shared_by, IsGrown, IsTurnWith};
+ghost use Rattle.fiber_step.specs.Throwing.{shared_by, IsGrown};
 ghost use Rattle.script_forms.specs.Flat.{nodes_of};
 
 use crate::ask::Ask;
@@ -16,83 +18,57 @@ use crate::draft::{FiberDraft, Taken};
 use crate::fiber::Fiber;
 use crate::mark::Mark;
 use crate::progress::Progress;
-use eio_value::{NoMemory, Outcome, Raised, Texts, Value};
+use eio_value::{NoMemory, Outcome, Texts, Value};
 use script_code::Script;
 
 impl<'f> FiberDraft<'f> {
+    ghost use Rattle.std.specs.Prelude.{ℕ, List};
     ghost use Rattle.eio_value.specs.declared.raised.Outcome.TheVariants as outcome;
-    ghost use Rattle.fiber_step.specs.Turning.{with_mark};
+    ghost use Rattle.script_forms.specs.declared.node.Node.{Node as Begun};
+    ghost use Rattle.fiber_step.specs.Settling.{HasComeTo};
+    ghost use Rattle.fiber_step.specs.Turning.{with_mark, next_call, IsTurnOrRaise};
 
     /// Takes the next item, to which a value comes.
     ///
     /// # Errors
-    /// [`NoMemory`] where memory runs out, or the numbers of raises or texts.
-    fn turn(
-        &mut self,
-        script: &Script,
-        value: Value,
-        texts: &mut Texts,
-        serial: &mut u64,
-    ) -> Result<Progress, NoMemory>
-        requires items { ArePlaced (nodes_of script.now) self.old.now.items }
-        requires texts { length script.now.texts ≤ length texts.old }
+    /// [`NoMemory`] where memory runs out.
+    fn turn(&mut self, script: &Script, value: Value) -> Result<Progress, NoMemory>
+        requires { ArePlaced (nodes_of script.now) self.old.now.items }
         ensures fiber { OnOk result (self.new.fiber ≡ self.old.fiber) }
-        ensures grown { IsGrown texts.old texts.new }
-        ensures turn { IfOk result (λ it. IsTurnWith (nodes_of script.now) (outcome.Ok value) self.old.now (shared_by texts.old serial.old) it self.new.now (shared_by texts.new serial.new)) }
+        ensures turn { IfOk result (λ it. IsTurnOrRaise (nodes_of script.now) script.now.texts (outcome.Ok value) self.old.now it self.new.now) }
     {
         match self.take()? {
             Taken::Nothing => Ok(Progress::Calls(Ask::End(Outcome::Ok(value)))),
             Taken::Restored => Ok(Progress::GoesOn(value)),
-            Taken::Mark(mark) => self.take_mark(script, mark, value, texts, serial),
+            Taken::Mark(mark) => self.take_mark(script, mark, value),
         }
     }
 
     /// What a mark does that was taken.
-    fn take_mark(
-        &mut self,
-        script: &Script,
-        mark: Mark,
-        value: Value,
-        texts: &mut Texts,
-        serial: &mut u64,
-    ) -> Result<Progress, NoMemory>
-        requires mark { IsPlacedMark (nodes_of script.now) mark }
-        requires texts { length script.now.texts ≤ length texts.old }
+    fn take_mark(&mut self, script: &Script, mark: Mark, value: Value) -> Result<Progress, NoMemory>
+        requires { IsPlacedMark (nodes_of script.now) mark }
         ensures fiber { OnOk result (self.new.fiber ≡ self.old.fiber) }
-        ensures grown { IsGrown texts.old texts.new }
-        ensures turn { IfOk result (λ it. IsTurnWith (nodes_of script.now) (outcome.Ok value) (with_mark mark self.old.now) (shared_by texts.old serial.old) it self.new.now (shared_by texts.new serial.new)) }
+        ensures turn { IfOk result (λ it. IsTurnOrRaise (nodes_of script.now) script.now.texts (outcome.Ok value) (with_mark mark self.old.now) it self.new.now) }
     {
         match mark {
-            Mark::Run(at) => self.run(script, at, texts, serial),
+            Mark::Run(at) => self.run(script, at),
             _ => self.pass(mark, value),
         }
     }
 
-    /// Goes on with a value up to the next call.
+    /// What first comes of a value or an exception.
     ///
     /// # Errors
-    /// [`NoMemory`] where memory runs out, or the numbers of raises or texts.
-    fn go_on(
-        &mut self,
-        script: &Script,
-        first: Value,
-        texts: &mut Texts,
-        serial: &mut u64,
-    ) -> Result<Ask, NoMemory>
-        requires items { ArePlaced (nodes_of script.now) self.old.now.items }
-        requires texts { length script.now.texts ≤ length texts.old }
+    /// [`NoMemory`] where memory runs out, or the numbers of texts.
+    fn receive(&mut self, came: &Outcome, texts: &mut Texts) -> Result<Progress, NoMemory>
+        requires { HasTextsOfOutcome texts.old came.now }
         ensures fiber { OnOk result (self.new.fiber ≡ self.old.fiber) }
         ensures grown { IsGrown texts.old texts.new }
-        ensures settled { IfOk result (λ call. SettlesTo (nodes_of script.now) (outcome.Ok first) self.old.now (shared_by texts.old serial.old) call self.new.now (shared_by texts.new serial.new)) }
-        ensures items { OnOk result (ArePlaced (nodes_of script.now) self.new.now.items) }
-        ensures bodies { IfOk result (λ call. HasBodiesOf (nodes_of script.now) call) }
+        ensures first { IfOk result (λ it. (nodes : List Begun) (serial : ℕ) → ArePlaced nodes self.old.now.items → HasComeTo nodes (next_call nodes came.now self.old.now) (shared_by texts.old serial) it self.new.now (shared_by texts.new serial)) }
     {
-        let mut value = first;
-        'turns: loop {
-            match self.turn(script, value, texts, serial)? {
-                Progress::GoesOn(next) => value = next,
-                Progress::Calls(call) => return Ok(call),
-            }
+        match came {
+            Outcome::Ok(value) => Ok(Progress::GoesOn(*value)),
+            Outcome::Err(raised) => self.throw(raised, texts),
         }
     }
 
@@ -116,32 +92,13 @@ impl<'f> FiberDraft<'f> {
         ensures items { OnOk result (ArePlaced (nodes_of script.now) self.new.now.items) }
         ensures bodies { IfOk result (λ call. HasBodiesOf (nodes_of script.now) call) }
     {
-        match came {
-            Outcome::Ok(value) => self.go_on(script, *value, texts, serial),
-            Outcome::Err(raised) => self.settle_raised(script, texts, serial, raised),
-        }
-    }
-
-    /// Goes on with an exception up to the next call.
-    fn settle_raised(
-        &mut self,
-        script: &Script,
-        texts: &mut Texts,
-        serial: &mut u64,
-        raised: &Raised,
-    ) -> Result<Ask, NoMemory>
-        requires items { ArePlaced (nodes_of script.now) self.old.now.items }
-        requires texts { length script.now.texts ≤ length texts.old }
-        requires raised { HasTextsOfRaised texts.old raised.now }
-        ensures fiber { OnOk result (self.new.fiber ≡ self.old.fiber) }
-        ensures grown { IsGrown texts.old texts.new }
-        ensures settled { IfOk result (λ call. SettlesTo (nodes_of script.now) (outcome.Err raised.now) self.old.now (shared_by texts.old serial.old) call self.new.now (shared_by texts.new serial.new)) }
-        ensures items { OnOk result (ArePlaced (nodes_of script.now) self.new.now.items) }
-        ensures bodies { IfOk result (λ call. HasBodiesOf (nodes_of script.now) call) }
-    {
-        match self.throw(raised, texts)? {
-            Progress::GoesOn(value) => self.go_on(script, value, texts, serial),
-            Progress::Calls(call) => Ok(call),
+        let mut progress = self.receive(came, texts)?;
+        'turns: loop {
+            match progress {
+                Progress::GoesOn(value) => progress = self.turn(script, value)?,
+                Progress::Raises(what) => progress = self.raise(what, texts, serial)?,
+                Progress::Calls(call) => return Ok(call),
+            }
         }
     }
 }

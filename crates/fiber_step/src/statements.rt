@@ -1,4 +1,6 @@
-//! What the statements do that are left of a block, up to where the fiber calls or goes on.
+//! What the statements do that are left of a block, up to where the fiber calls, goes on, or raises.
+//!
+//! A raise is only said here: whoever takes the turn makes it, and so no statement has the number of the next raise.
 
 ghost use Rattle.std.specs.Prelude.{◌≡◌, ◌≤◌, ◌<◌, ◌^◌, length, List, IfOk, OnOk};
 ghost use Rattle.fiber_step.specs.Having.{BeginsStatement, HasStatements};
@@ -11,7 +13,7 @@ use crate::evaluation::evaluate;
 use crate::mark::Mark;
 use crate::progress::Progress;
 use crate::step::{Step, Stepped, step_at};
-use eio_value::{NoMemory, Plain, Texts, Value};
+use eio_value::{NoMemory, Plain, Value};
 use script_code::Script;
 use script_forms::{Node, ObjectCall};
 
@@ -36,9 +38,8 @@ impl<'f> FiberDraft<'f> {
     ghost use Rattle.script_forms.specs.declared.node.Node.TheVariants as node;
     ghost use Rattle.fiber_step.specs.Having.{HasExpression};
     ghost use Rattle.fiber_step.specs.Stepping.{IsStepped};
-    ghost use Rattle.fiber_step.specs.Stating.{binding, NoGive, is_entering, IsLastStep, RaisesWithin, IsSilentStep, IsDoneBy};
-    ghost use Rattle.fiber_step.specs.Throwing.{shared_by, IsGrown, IsTurnWith};
-    ghost use Rattle.fiber_step.specs.Turning.{with_mark};
+    ghost use Rattle.fiber_step.specs.Stating.{binding, NoGive, is_entering, IsLastStep, IsSilentStep, IsDoneBy};
+    ghost use Rattle.fiber_step.specs.Turning.{with_mark, IsTurnOrRaise};
     ghost use Rattle.fiber_step.specs.declared.mark.Mark.TheVariants as mark;
 
     /// The marks of so many `let`s whose form is under way.
@@ -57,88 +58,54 @@ impl<'f> FiberDraft<'f> {
     /// The statements of a block from this node on.
     ///
     /// # Errors
-    /// [`NoMemory`] where memory runs out, or the numbers of raises or texts.
-    pub(crate) fn run(
-        &mut self,
-        script: &Script,
-        at: u32,
-        texts: &mut Texts,
-        serial: &mut u64,
-    ) -> Result<Progress, NoMemory>
-        requires statements { HasStatements (nodes_of script.now) at }
-        requires texts { length script.now.texts ≤ length texts.old }
+    /// [`NoMemory`] where memory runs out.
+    pub(crate) fn run(&mut self, script: &Script, at: u32) -> Result<Progress, NoMemory>
+        requires { HasStatements (nodes_of script.now) at }
         ensures fiber { OnOk result (self.new.fiber ≡ self.old.fiber) }
-        ensures grown { IsGrown texts.old texts.new }
-        ensures turn { IfOk result (λ it. (value : Held) → IsTurnWith (nodes_of script.now) (outcome.Ok value) (with_mark (mark.Run at) self.old.now) (shared_by texts.old serial.old) it self.new.now (shared_by texts.new serial.new)) }
+        ensures turn { IfOk result (λ it. (value : Held) → IsTurnOrRaise (nodes_of script.now) script.now.texts (outcome.Ok value) (with_mark (mark.Run at) self.old.now) it self.new.now) }
     {
         match script.node(at) {
             Node::End => Ok(Progress::GoesOn(Value::Unit)),
-            Node::Give => self.give(script, at, texts, serial),
-            _ => self.state(script, at, form_of(script, at), texts, serial),
+            Node::Give => Ok(self.give(script, at)),
+            _ => self.state(script, at, form_of(script, at)),
         }
     }
 
     /// The statement that gives its block's value.
-    fn give(
-        &mut self,
-        script: &Script,
-        at: u32,
-        texts: &mut Texts,
-        serial: &mut u64,
-    ) -> Result<Progress, NoMemory>
+    fn give(&self, script: &Script, at: u32) -> Progress
         requires within { at + 1 < 2 ^ 32 }
         requires gives { Stands (nodes_of script.now) at node.Give }
         requires operand { HasExpression (nodes_of script.now) (at + 1) }
-        ensures fiber { OnOk result (self.new.fiber ≡ self.old.fiber) }
-        ensures grown { IsGrown texts.old texts.new }
-        ensures turn { IfOk result (λ it. (value : Held) → IsTurnWith (nodes_of script.now) (outcome.Ok value) (with_mark (mark.Run at) self.old.now) (shared_by texts.old serial.old) it self.new.now (shared_by texts.new serial.new)) }
+        ensures { (value : Held) → IsTurnOrRaise (nodes_of script.now) script.now.texts (outcome.Ok value) (with_mark (mark.Run at) self.now.now) result self.now.now }
     {
         match evaluate(script, at + 1, &self.scope()) {
-            Ok(operand) => Ok(Progress::GoesOn(operand.value)),
-            Err(why) => self.raise(Plain::Invalid(why), texts, serial),
+            Ok(operand) => Progress::GoesOn(operand.value),
+            Err(why) => Progress::Raises(Plain::Invalid(why)),
         }
     }
 
     /// A statement that doesn't give its block's value, with the number of the form behind its `let`s.
-    fn state(
-        &mut self,
-        script: &Script,
-        at: u32,
-        form: u32,
-        texts: &mut Texts,
-        serial: &mut u64,
-    ) -> Result<Progress, NoMemory>
+    fn state(&mut self, script: &Script, at: u32, form: u32) -> Result<Progress, NoMemory>
         requires form { IsForm (nodes_of script.now) at form }
         requires first { NoGive (nodes_of script.now) at }
-        requires texts { length script.now.texts ≤ length texts.old }
         ensures fiber { OnOk result (self.new.fiber ≡ self.old.fiber) }
-        ensures grown { IsGrown texts.old texts.new }
-        ensures turn { IfOk result (λ it. (value : Held) → IsTurnWith (nodes_of script.now) (outcome.Ok value) (with_mark (mark.Run at) self.old.now) (shared_by texts.old serial.old) it self.new.now (shared_by texts.new serial.new)) }
+        ensures turn { IfOk result (λ it. (value : Held) → IsTurnOrRaise (nodes_of script.now) script.now.texts (outcome.Ok value) (with_mark (mark.Run at) self.old.now) it self.new.now) }
     {
         match step_at(script, form, &self.scope()) {
-            Ok(stepped) => self.take_step(at, form, stepped, texts, serial),
-            Err(why) => self.raise(Plain::Invalid(why), texts, serial),
+            Ok(stepped) => self.take_step(at, form, stepped),
+            Err(why) => Ok(Progress::Raises(Plain::Invalid(why))),
         }
     }
 
     /// What the form of a statement comes to, behind its `let`s.
-    fn take_step(
-        &mut self,
-        at: u32,
-        form: u32,
-        stepped: Stepped,
-        texts: &mut Texts,
-        serial: &mut u64,
-    ) -> Result<Progress, NoMemory>
+    fn take_step(&mut self, at: u32, form: u32, stepped: Stepped) -> Result<Progress, NoMemory>
         requires lets { at ≤ form }
         requires step { IsLastStep stepped.step }
-        requires text { RaisesWithin (length texts.old) stepped.step }
         ensures fiber { OnOk result (self.new.fiber ≡ self.old.fiber) }
-        ensures grown { IsGrown texts.old texts.new }
-        ensures turn { IfOk result (λ it. (nodes : List Begun) (count : ℕ) (value : Held) → IsForm nodes at form → NoGive nodes at → IsStepped nodes count form self.old.now.variables stepped → IsTurnWith nodes (outcome.Ok value) (with_mark (mark.Run at) self.old.now) (shared_by texts.old serial.old) it self.new.now (shared_by texts.new serial.new)) }
+        ensures turn { IfOk result (λ it. (nodes : List Begun) (texts : List (List ℕ)) (value : Held) → IsForm nodes at form → NoGive nodes at → IsStepped nodes (length texts) form self.old.now.variables stepped → IsTurnOrRaise nodes texts (outcome.Ok value) (with_mark (mark.Run at) self.old.now) it self.new.now) }
     {
         if let Step::Raises(text) = stepped.step {
-            return self.raise(Plain::Failure(text), texts, serial);
+            return Ok(Progress::Raises(Plain::Failure(text)));
         }
         self.push(Mark::Run(stepped.after))?;
         self.bind(form - at)?;

@@ -58,11 +58,11 @@ impl<'f> FiberDraft<'f> {
     ghost use Rattle.eio_value.specs.Exceptions.{HasTextsOfPlain};
     ghost use Rattle.eio_value.specs.declared.raised.Outcome.TheVariants as outcome;
     ghost use Rattle.script_forms.specs.declared.node.Node.{Node as Begun};
-    ghost use Rattle.spec_fiber.specs.Silent.{raises};
     ghost use Rattle.fiber_step.specs.Standing.{is_end};
-    ghost use Rattle.fiber_step.specs.Throwing.{shared_by, IsGrown, IsTurnWith, IsStatedWith};
-    ghost use Rattle.fiber_step.specs.Turning.{with_mark};
+    ghost use Rattle.fiber_step.specs.Throwing.{shared_by, IsGrown, IsTurnWith};
+    ghost use Rattle.fiber_step.specs.Turning.{with_mark, next_call, next_behind};
     ghost use Rattle.fiber_step.specs.Unwinding.{stops};
+    ghost use Rattle.fiber_step.specs.declared.progress.Progress.TheVariants as progress;
 
     /// What an exception comes to.
     ///
@@ -72,7 +72,7 @@ impl<'f> FiberDraft<'f> {
         requires { HasTextsOfRaised texts.old raised.now }
         ensures fiber { OnOk result (self.new.fiber ≡ self.old.fiber) }
         ensures grown { IsGrown texts.old texts.new }
-        ensures turn { IfOk result (λ it. (nodes : List Begun) (serial : ℕ) → IsTurnWith nodes (outcome.Err raised.now) self.old.now (shared_by texts.old serial) it self.new.now (shared_by texts.new serial)) }
+        ensures turn { IfOk result (λ it. (nodes : List Begun) (serial : ℕ) → IsTurnWith nodes (next_call nodes (outcome.Err raised.now)) self.old.now (shared_by texts.old serial) it self.new.now (shared_by texts.new serial)) }
     {
         let came = Outcome::Err(*raised);
         let Some(mark) = self.unwind()? else {
@@ -96,7 +96,7 @@ impl<'f> FiberDraft<'f> {
         requires texts { HasTextsOfRaised texts.old raised.now }
         ensures fiber { OnOk result (self.new.fiber ≡ self.old.fiber) }
         ensures grown { IsGrown texts.old texts.new }
-        ensures turn { IfOk result (λ it. (nodes : List Begun) (serial : ℕ) → IsTurnWith nodes (outcome.Err raised.now) (with_mark mark self.old.now) (shared_by texts.old serial) it self.new.now (shared_by texts.new serial)) }
+        ensures turn { IfOk result (λ it. (nodes : List Begun) (serial : ℕ) → IsTurnWith nodes (next_call nodes (outcome.Err raised.now)) (with_mark mark self.old.now) (shared_by texts.old serial) it self.new.now (shared_by texts.new serial)) }
     {
         let Mark::Try { handler, keep } = mark else {
             unreachable!()
@@ -121,7 +121,7 @@ impl<'f> FiberDraft<'f> {
         requires { HasTextsOfPlain texts.old what }
         ensures fiber { OnOk result (self.new.fiber ≡ self.old.fiber) }
         ensures grown { IsGrown texts.old texts.new }
-        ensures turn { IfOk result (λ it. (nodes : List Begun) → IsStatedWith nodes (raises what) self.old.now (shared_by texts.old serial.old) it self.new.now (shared_by texts.new serial.new)) }
+        ensures turn { IfOk result (λ it. (nodes : List Begun) → IsTurnWith nodes (next_behind nodes (progress.Raises what)) self.old.now (shared_by texts.old serial.old) it self.new.now (shared_by texts.new serial.new)) }
     {
         let member = Member {
             serial: *serial,

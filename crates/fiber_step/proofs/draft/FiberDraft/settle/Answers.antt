@@ -1,16 +1,38 @@
-use Rattle.std.proofs.Common.{sym, subst}
+use Rattle.std.proofs.Common.{◌∙◌}
 use Rattle.script_forms.specs.Flat.{nodes_of}
-use Rattle.fiber_step.specs.Settling.{SettlesTo}
-use Rattle.fiber_step.specs.Throwing.{shared_by}
-use Rattle.fiber_step.proofs.Results.{after_ok}
+use Rattle.fiber_step.proofs.Settles.{one_more_turn, one_more_raise, has_called, turn_smaller, raise_smaller, long_enough}
+use Rattle.fiber_step.proofs.Throws.{grown_then}
 use Rattle.fiber_step.proofs.draft.FiberDraft.settle.Goals as goal
 
-pub returns-in-Ok-clause-settled : goal.returns-in-Ok-clause-settled
-returns-in-Ok-clause-settled c =
-    after_ok _ _ _ c.go_on.result c.go_on.ensures.settled c.go_on.ensures.fiber
-    (λ call settled same. subst (λ came. SettlesTo (nodes_of c.args.script.now) came c.args.self.now.now (shared_by c.args.texts.now c.args.serial.now) call c.go_on.new.self.now (shared_by c.go_on.new.texts c.go_on.new.serial)) (sym c.in-Ok.is) settled)
+pub turns-init : goal.turns-init
+turns-init c = (
+  c.in_ok-progress.ensures.fiber,
+  c.receive.ensures.grown,
+  long_enough _ _ _ c.requires.texts c.receive.ensures.grown,
+  c.in_ok-progress.ensures.first (nodes_of c.args.script.now) c.args.serial.now c.requires.items,
+)
 
-pub returns-in-Err-clause-settled : goal.returns-in-Err-clause-settled
-returns-in-Err-clause-settled c =
-    after_ok _ _ _ c.settle_raised.result c.settle_raised.ensures.settled c.settle_raised.ensures.fiber
-    (λ call settled same. subst (λ came. SettlesTo (nodes_of c.args.script.now) came c.args.self.now.now (shared_by c.args.texts.now c.args.serial.now) call c.settle_raised.new.self.now (shared_by c.settle_raised.new.texts c.settle_raised.new.serial)) (sym c.in-Err.is) settled)
+pub turns-preserved-in-GoesOn : goal.turns-preserved-in-GoesOn
+turns-preserved-in-GoesOn c = (
+  c.in_ok-progress-in-GoesOn.ensures.fiber ∙ c.turns.invariant.0,
+  c.turns.invariant.1,
+  c.turns.invariant.2,
+  one_more_turn _ _ _ _ _ _ _ _ _ _ c.turns.invariant.3 c.in-GoesOn.is c.turns.invariant.2 c.in_ok-progress-in-GoesOn.ensures.turn,
+)
+
+pub turns-smaller-in-GoesOn : goal.turns-smaller-in-GoesOn
+turns-smaller-in-GoesOn c = turn_smaller _ _ _ _ _ _ c.in-GoesOn.is c.in_ok-progress-in-GoesOn.ensures.turn.lighter
+
+pub turns-smaller : goal.turns-smaller
+turns-smaller c = raise_smaller _ _ _ _ _ _ c.in-Raises.is (c.in_ok-progress-in-Raises.ensures.turn (nodes_of c.args.script.now)).lighter
+
+pub turns-preserved : goal.turns-preserved
+turns-preserved c = (
+  c.in_ok-progress-in-Raises.ensures.fiber ∙ c.turns.invariant.0,
+  grown_then _ _ _ c.turns.invariant.1 c.raise.ensures.grown,
+  long_enough _ _ _ c.turns.invariant.2 c.raise.ensures.grown,
+  one_more_raise _ _ _ _ _ _ _ _ _ _ c.turns.invariant.3 c.in-Raises.is (c.in_ok-progress-in-Raises.ensures.turn (nodes_of c.args.script.now)),
+)
+
+pub returns-in-Calls-clause-settled : goal.returns-in-Calls-clause-settled
+returns-in-Calls-clause-settled c = (has_called _ _ _ _ _ _ _ c.in-Calls.is c.turns.invariant.3).next

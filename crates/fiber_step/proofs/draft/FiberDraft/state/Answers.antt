@@ -3,7 +3,7 @@ use Rattle.eio_value.specs.declared.plain.Plain.TheVariants.{Invalid}
 use Rattle.script_forms.specs.Flat.{nodes_of}
 use Rattle.fiber_step.specs.Stepping.{IsStepped, IsRaise}
 use Rattle.fiber_step.proofs.Results.{after_ok}
-use Rattle.fiber_step.proofs.Stated.{form_raises, last_step, raises_within}
+use Rattle.fiber_step.proofs.Stated.{form_raises, last_step}
 use Rattle.fiber_step.proofs.draft.FiberDraft.state.Goals as goal
 
 pub step_at-requires : goal.step_at-requires
@@ -15,17 +15,13 @@ take_step-requires-clause-lets c = let count = c.requires.form.behind.count in o
 pub take_step-requires-clause-step : goal.take_step-requires-clause-step
 take_step-requires-clause-step c = last_step _ _ _ _ c.in-Ok.ensures.is c.in-Ok.ensures.bodies c.requires.form.last
 
-pub take_step-requires-clause-text : goal.take_step-requires-clause-text
-take_step-requires-clause-text c = raises_within _ _ _ c.in-Ok.ensures.text c.requires.texts
-
 pub returns-in-Ok-clause-turn : goal.returns-in-Ok-clause-turn
 returns-in-Ok-clause-turn c =
     let stepped = subst (λ those. IsStepped (nodes_of c.args.script.now) (length c.args.script.now.texts) c.args.form those c.in-Ok.stepped) c.scope.ensures c.in-Ok.ensures in
     after_ok _ _ _ c.take_step.result c.take_step.ensures.turn c.take_step.ensures.fiber
-    (λ t is same value. is (nodes_of c.args.script.now) (length c.args.script.now.texts) value c.requires.form c.requires.first stepped)
+    (λ t is same value. is (nodes_of c.args.script.now) c.args.script.now.texts value c.requires.form c.requires.first stepped)
 
 pub returns-in-Err-clause-turn : goal.returns-in-Err-clause-turn
 returns-in-Err-clause-turn c =
     let raised = subst (λ those. IsRaise (nodes_of c.args.script.now) c.args.form those (Invalid c.in-Err.why)) c.scope.ensures c.in-Err.ensures in
-    after_ok _ _ _ c.raise.result c.raise.ensures.turn c.raise.ensures.fiber
-    (λ t stated same value. form_raises (nodes_of c.args.script.now) c.args.at c.args.form c.args.self.now.now c.raise.new.self.now value t _ _ (Invalid c.in-Err.why) c.requires.form raised (stated (nodes_of c.args.script.now)))
+    λ value. form_raises (nodes_of c.args.script.now) c.args.script.now.texts c.args.at c.args.form c.args.self.now.now value (Invalid c.in-Err.why) c.requires.form raised tt

@@ -2,28 +2,27 @@ use Rattle.std.proofs.Common.{sym, subst}
 use Rattle.eio_value.specs.declared.raised.Outcome.TheVariants as outcome
 use Rattle.script_forms.specs.Flat.{nodes_of}
 use Rattle.fiber_step.specs.Placing.{IsPlacedMark}
-use Rattle.fiber_step.specs.Throwing.{shared_by, IsTurnWith}
-use Rattle.fiber_step.specs.Turning.{with_mark}
+use Rattle.fiber_step.specs.Turning.{with_mark, IsTurnOrRaise}
 use Rattle.fiber_step.proofs.Results.{after_ok}
 use Rattle.fiber_step.proofs.Settles.{is_no_run}
-use Rattle.fiber_step.proofs.Throws.{turn_with}
+use Rattle.fiber_step.proofs.Turns.{turn_or_raise}
 use Rattle.fiber_step.proofs.draft.FiberDraft.take_mark.Goals as goal
 
-pub run-requires-clause-statements : goal.run-requires-clause-statements
-run-requires-clause-statements c = (subst (λ m. IsPlacedMark (nodes_of c.args.script.now) m) c.in-Run.is c.requires.mark).0
+pub run-requires : goal.run-requires
+run-requires c = (subst (λ m. IsPlacedMark (nodes_of c.args.script.now) m) c.in-Run.is c.requires).0
 
 pub returns-in-Run-clause-turn : goal.returns-in-Run-clause-turn
 returns-in-Run-clause-turn c =
     after_ok _ _ _ c.run.result c.run.ensures.turn c.run.ensures.fiber
-    (λ t is same. subst (λ m. IsTurnWith (nodes_of c.args.script.now) (outcome.Ok c.args.value) (with_mark m c.args.self.now.now) (shared_by c.args.texts.now c.args.serial.now) t c.run.new.self.now (shared_by c.run.new.texts c.run.new.serial)) (sym c.in-Run.is) (is c.args.value))
+    (λ t is same. subst (λ m. IsTurnOrRaise (nodes_of c.args.script.now) c.args.script.now.texts (outcome.Ok c.args.value) (with_mark m c.args.self.now.now) t c.run.new.self.now) (sym c.in-Run.is) (is c.args.value))
 
 pub pass-requires-clause-mark : goal.pass-requires-clause-mark
 pass-requires-clause-mark c = is_no_run c.args.mark c.in_default.not-Run
 
 pub pass-requires-clause-turns : goal.pass-requires-clause-turns
-pass-requires-clause-turns c = c.requires.mark.1
+pass-requires-clause-turns c = c.requires.1
 
 pub returns-in_default-clause-turn : goal.returns-in_default-clause-turn
 returns-in_default-clause-turn c =
     after_ok _ _ _ c.pass.result c.pass.ensures.turn c.pass.ensures.fiber
-    (λ t is same. turn_with (nodes_of c.args.script.now) (outcome.Ok c.args.value) (with_mark c.args.mark c.args.self.now.now) c.pass.new.self.now t (shared_by c.args.texts.now c.args.serial.now) (is (nodes_of c.args.script.now)))
+    (λ t is same. turn_or_raise (nodes_of c.args.script.now) c.args.script.now.texts (outcome.Ok c.args.value) (with_mark c.args.mark c.args.self.now.now) c.pass.new.self.now t (is (nodes_of c.args.script.now)))

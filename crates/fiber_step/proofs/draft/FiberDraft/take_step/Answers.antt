@@ -1,6 +1,5 @@
 use Rattle.std.proofs.Common.{rules, ◌≡◌, ◌-◌, ◌∙◌, ap, refl}
 use Rattle.fiber_step.specs.Stating.{binding}
-use Rattle.fiber_step.specs.Throwing.{shared_by}
 use Rattle.fiber_step.specs.Turning.{with_mark}
 use Rattle.fiber_step.specs.declared.mark.Mark.TheVariants as mark
 use Rattle.fiber_step.proofs.Results.{after_ok}
@@ -11,10 +10,8 @@ pub go_by-requires : goal.go_by-requires
 go_by-requires c = silent_step c.args.stepped.step c.requires.step c.in_default.not-Raises
 
 pub returns-in-Raises-clause-turn : goal.returns-in-Raises-clause-turn
-returns-in-Raises-clause-turn c =
-    after_ok _ _ _ c.raise.result c.raise.ensures.turn c.raise.ensures.fiber
-    (λ t stated same nodes count value is first found.
-    step_raises nodes count c.args.at c.args.form c.args.stepped c.in-Raises.text c.args.self.now.now c.raise.new.self.now value t _ _ is found c.in-Raises.is (stated nodes))
+returns-in-Raises-clause-turn c = λ nodes texts value is first found.
+    step_raises nodes texts c.args.at c.args.form c.args.stepped c.in-Raises.text c.args.self.now.now value is found c.in-Raises.is
 
 pub returns-clause-turn : goal.returns-clause-turn
 returns-clause-turn c =
@@ -22,6 +19,5 @@ returns-clause-turn c =
     let bound : c.bind.new.self.now ≡ binding (c.args.form - c.args.at) c.push.new.self.now = search rules in
     let mid = bound ∙ ap (λ k. binding (c.args.form - c.args.at) k) pushed in
     after_ok _ _ _ c.go_by.result c.go_by.ensures.done c.go_by.ensures.fiber
-    (λ t done same nodes count value is first found.
-    step_turns nodes count c.args.at c.args.form (c.args.form - c.args.at) c.args.stepped c.args.self.now.now c.bind.new.self.now c.go_by.new.self.now value t (shared_by c.args.texts.now c.args.serial.now)
-    is first found c.requires.step refl mid done)
+    (λ t done same nodes texts value is first found.
+    step_turns nodes texts c.args.at c.args.form (c.args.form - c.args.at) c.args.stepped c.args.self.now.now c.bind.new.self.now c.go_by.new.self.now value t is first found c.requires.step refl mid done)

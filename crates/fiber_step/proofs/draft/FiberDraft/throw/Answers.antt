@@ -3,7 +3,7 @@ use Rattle.eio_value.specs.declared.raised.Outcome.TheVariants as outcome
 use Rattle.fiber_step.specs.Drafting.{Drafted}
 use Rattle.fiber_step.specs.Standing.{Ends}
 use Rattle.fiber_step.specs.Throwing.{shared_by, IsTurnWith}
-use Rattle.fiber_step.specs.Turning.{with_mark, kept_to}
+use Rattle.fiber_step.specs.Turning.{with_mark, kept_to, next_call}
 use Rattle.fiber_step.specs.Unwinding.{stopped, IsDropped, IsStop}
 use Rattle.fiber_step.specs.declared.progress.Progress.TheVariants as progress
 use Rattle.fiber_step.proofs.Passes.{end_turns}
@@ -31,8 +31,8 @@ returns-in-Some-end-clause-turn c =
     let shared = shared_by c.args.texts.now serial in
     let is = end_turns nodes came c.in-Some.mark mid c.in-Some-end.end ends (c.in-Some-end.ensures.bodies nodes) in
     dropped_turn nodes c.args.raised.now old (with_mark c.in-Some.mark mid) c.ended.new.self.now c.ended.result shared shared dropped
-    (subst (λ t. IsTurnWith nodes came (with_mark c.in-Some.mark mid) shared t c.ended.new.self.now shared) (sym c.ended.ensures.call)
-    (subst (λ k. IsTurnWith nodes came (with_mark c.in-Some.mark mid) shared (progress.Calls c.in-Some-end.end.call) k shared) (sym kept)
+    (subst (λ t. IsTurnWith nodes (next_call nodes came) (with_mark c.in-Some.mark mid) shared t c.ended.new.self.now shared) (sym c.ended.ensures.call)
+    (subst (λ k. IsTurnWith nodes (next_call nodes came) (with_mark c.in-Some.mark mid) shared (progress.Calls c.in-Some-end.end.call) k shared) (sym kept)
     (turn_with nodes came (with_mark c.in-Some.mark mid) (kept_to c.in-Some-end.end.keep mid) (progress.Calls c.in-Some-end.end.call) shared is)))
 
 pub returns-in-None-clause-turn : goal.returns-in-None-clause-turn
