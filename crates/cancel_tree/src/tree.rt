@@ -169,9 +169,7 @@ impl Tree {
         ensures { self.new ≡ without c self.old }
     {
         let index = self.places.partition_point(|place| place.number < c);
-        let Some(place) = self.places.remove(index) else {
-            unreachable!()
-        };
+        let place = self.places.remove(index).unwrap();
         self.kept.remove(place.key);
     }
 }
