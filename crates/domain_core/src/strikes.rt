@@ -42,9 +42,7 @@ impl Domain {
         let member = self.new_raise(why)?;
         self.contexts.unwait(fiber);
         self.fibers.throw(fiber, &Raised::Cancelled(member))?;
-        if let Err(_) = self.ready.push_back(fiber) {
-            unreachable!()
-        }
+        self.ready.push_back_reserved(fiber);
         *told = Told {
             fiber: strike.maker,
             did,

@@ -237,10 +237,7 @@ impl Domain {
                 let why = self.contexts.is_off(context).unwrap_or(Plain::Exit);
                 Ok(Outcome::Err(Raised::Cancelled(self.new_raise(why)?)))
             }
-            Standing::Throws(_) => match self.fibers.thrown(fiber) {
-                Some(raised) => Ok(Outcome::Err(*raised)),
-                None => unreachable!(),
-            },
+            Standing::Throws(_) => Ok(Outcome::Err(*self.fibers.thrown(fiber).unwrap())),
             _ => unreachable!(),
         }
     }
