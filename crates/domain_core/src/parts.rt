@@ -206,6 +206,7 @@ impl Domain {
         let Some(fiber) = fiber else {
             return;
         };
+        // Not one pattern with the one below: where that doesn't fit, the proof wouldn't know in which way.
         let Some(standing) = self.fibers.standing(fiber) else {
             return;
         };

@@ -57,6 +57,7 @@ fn awaits_cancel(standing: Option<Standing>) -> bool
     ensures yes { result ≡ true → standing ≡ Some Standing.AwaitsCancel }
     ensures no { result ≡ false → standing ≢ Some Standing.AwaitsCancel }
 {
+    // Apart from `strike`, and no nested pattern, for the proof alone: facts are lost where branches come together.
     match standing {
         Some(stands) => match stands {
             Standing::AwaitsCancel => true,

@@ -88,6 +88,7 @@ impl<'f> FiberDraft<'f> {
         ensures bodies { IfOk result (λ call. HasBodiesOf (nodes_of script.now) call) }
     {
         let mut value = first;
+        // The label is the loop's name in its proof.
         'turns: loop {
             match self.turn(script, value, texts, serial)? {
                 Progress::GoesOn(next) => value = next,
