@@ -134,19 +134,17 @@ impl Fiber {
     ///
     /// # Errors
     /// [`NoMemory`] where memory runs out; then the fiber is as it was.
-    pub(crate) fn keep(&mut self, changes: Changes) -> Result<(), NoMemory>
+    pub(crate) fn keep(&mut self, mut changes: Changes) -> Result<(), NoMemory>
         ensures ok { OnOk result (self.new ≡ changed self.old changes) }
         ensures err { OnErr result (self.new ≡ self.old) }
     {
-        let mut changes = changes;
         self.work.reserve(changes.items.len() + 1)?;
         self.variables.change(changes.kept, &mut changes.values)?;
         self.work.truncate(changes.left);
         self.work.append(&mut changes.items).unwrap();
-        let Some(next) = changes.next else {
-            return Ok(());
-        };
-        self.work.push_reserved(Item::Mark(next));
+        if let Some(next) = changes.next {
+            self.work.push_reserved(Item::Mark(next));
+        }
         Ok(())
     }
 
