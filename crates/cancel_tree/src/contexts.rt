@@ -138,9 +138,7 @@ impl Contexts {
     {
         for waiting in self.waiters.entered().iter() {
             if self.tree.goes_up_to(waiting.context, c) {
-                if let Err(_) = out.push(waiting.fiber) {
-                    unreachable!()
-                }
+                out.push_reserved(waiting.fiber);
             }
         }
     }

@@ -62,6 +62,7 @@ fn jump_from(kept: &Slab<KeptContext>, parent: ContextKey) -> Jump
         place: parent,
         length: 1,
     };
+    // The parent is kept, and so is where its jump leads; were they not, one step would do, so that nobody has to show it.
     let Some(context) = kept.get(parent.key) else {
         return step;
     };
@@ -74,6 +75,7 @@ fn jump_from(kept: &Slab<KeptContext>, parent: ContextKey) -> Jump
     match far.jump {
         Some(second) if first.length == second.length => Jump {
             place: second.place,
+            // It is less than how many were made; saturating, so that no invariant has to say so.
             length: first.length.saturating_mul(2).saturating_add(1),
         },
         _ => step,

@@ -92,6 +92,7 @@ impl Tree {
         ensures { result ≡ contexts.off self.now c }
     {
         let mut next = place_of(&self.places, c);
+        // The label is the loop's name in its proof.
         'way: while let Some(place) = next {
             let context = &self.kept[place.key];
             if context.reason.is_some() {
@@ -110,6 +111,7 @@ impl Tree {
             return true;
         }
         let mut next = place_of(&self.places, x);
+        // The label is the loop's name in its proof.
         'way: while let Some(place) = next {
             if place.number <= c {
                 return place.number == c;
@@ -169,9 +171,7 @@ impl Tree {
         ensures { self.new ≡ without c self.old }
     {
         let index = self.places.partition_point(|place| place.number < c);
-        let Some(place) = self.places.remove(index) else {
-            unreachable!()
-        };
+        let place = self.places.remove(index).unwrap();
         self.kept.remove(place.key);
     }
 }

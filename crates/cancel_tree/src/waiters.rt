@@ -64,9 +64,9 @@ impl Waiters {
         ensures { self.new ≡ put_in (record { fiber = fiber; context = context }) self.old }
     {
         let index = self.entered.partition_point(|other| other.fiber < fiber);
-        if let Err(_) = self.entered.insert(index, Entered { fiber, context }) {
-            unreachable!()
-        }
+        self.entered
+            .insert(index, Entered { fiber, context })
+            .unwrap();
     }
 
     /// The fiber no longer waits.

@@ -1,9 +1,6 @@
 -- New fibers of a group stand before all others, in order of their numbers.
 use Rattle.std.proofs.Common.{◌≡◌, ℕ, zero, suc, ◌+◌, ◌-◌, ◌<◌, ◌≤◌, List, ◌∷◌, ◌++◌, length, refl, ap, ◌∙◌, arith}
-use Rattle.std.specs.Bool.{IsTrue}
-use Rattle.std.proofs.lemmas.Bool.{leb-true}
 use Rattle.std.proofs.lemmas.List.{length-append}
-use Rattle.spec_parts.specs.ReadyList.{is_full}
 use Rattle.spec_machine.specs.GroupMoves.{numbers_from}
 
 pub before_first : (first n : ℕ) (count : ℕ) (rest : List ℕ) → first < n → (n - 1) ∷ (numbers_from n count ++ rest) ≡ numbers_from (n - 1) (suc count) ++ rest
@@ -15,8 +12,7 @@ as_many first (suc count) = ap suc (as_many (first + 1) count)
 
 -- while some are still to be put, there is room for one
 pub room_for_all : (first count n done most : ℕ) (ready rest : List ℕ) → ready ≡ numbers_from n done ++ rest → most ≡ 1024
-    → first < n → n + done ≡ first + count → length rest + count ≤ 1024 → IsTrue (is_full most ready) → ⊥
-room_for_all first count n done most ready rest is many below all room full = (
+    → first < n → n + done ≡ first + count → length rest + count ≤ 1024 → length ready < most
+room_for_all first count n done most ready rest is many below all room = (
     let long : length ready ≡ done + length rest = ap (λ (xs : List ℕ). length xs) is ∙ (length-append (numbers_from n done) rest ∙ ap (λ m. m + length rest) (as_many n done)) in
-    let most_stand : most ≤ length ready = leb-true most (length ready) full in
-    absurd (omega (arith, long, most_stand, many, below, all, room)))
+    omega (arith, long, many, below, all, room))

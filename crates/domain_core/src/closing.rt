@@ -124,6 +124,7 @@ impl Domain {
         ensures makes { OnOk result (MakesUnder (nodes_of script.now) (runs script.now (asks.Close switch None kept) switch handler fiber) self.old told.new self.new) }
         ensures same { OnOk result (SameCounts self.old self.new) }
     {
+        // For the proof alone: a law of scripts, by which the handler's block stands at its node.
         script.is_sound();
         let Some(context) = self.new_protected(fiber) else {
             self.halt(fiber, told);

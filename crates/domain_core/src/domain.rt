@@ -98,14 +98,10 @@ impl Domain {
         ensures { IfOk result (Starts script.now body budget mocked) }
     {
         let mut ready = Ready::new(alloc, MOST_FIBERS)?;
-        if let Err(_) = ready.push_back(BODY_FIBER) {
-            unreachable!()
-        }
+        ready.push_back_reserved(BODY_FIBER);
         let owed = Strikes::new(alloc)?;
         let mut contexts = Contexts::new(alloc)?;
-        let Ok(root) = contexts.root() else {
-            unreachable!()
-        };
+        let root = contexts.root().unwrap();
         let fibers = Fibers::of_body(alloc, script, body, root)?;
         Ok(Domain {
             alloc,

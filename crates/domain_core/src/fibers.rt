@@ -161,9 +161,7 @@ impl Fibers {
             standing: Standing::Ready(Next::GoesOn(Value::Unit)),
             frames,
         });
-        if let Err(_) = self.keys.push(Some(key)) {
-            unreachable!()
-        }
+        self.keys.push_reserved(Some(key));
         Ok(number)
     }
 
@@ -292,10 +290,7 @@ fn key_of(keys: &[Option<usize>], number: u32) -> usize
     requires { HasKey keys.now number }
     ensures { slice_get keys.now number ≡ Some (Some result) }
 {
-    match keys[number as usize] {
-        Some(key) => key,
-        None => unreachable!(),
-    }
+    keys[number as usize].unwrap()
 }
 
 /// The exception goes with which a fiber stood so.

@@ -154,9 +154,7 @@ impl Domain {
         ensures same { SameCounts self.old self.new }
     {
         for fiber in (first..first + count).rev() {
-            if let Err(_) = self.ready.push_head(fiber) {
-                unreachable!()
-            }
+            self.ready.push_head_reserved(fiber);
         }
     }
 

@@ -36,9 +36,7 @@ impl Domain {
         ensures same { SameCounts self.old self.new }
     {
         self.fibers.stand(fiber, Standing::Ready(next));
-        if let Err(_) = self.ready.push_head(fiber) {
-            unreachable!()
-        }
+        self.ready.push_head_reserved(fiber);
     }
 
     /// The same, but last.
@@ -53,9 +51,7 @@ impl Domain {
         ensures same { SameCounts self.old self.new }
     {
         self.fibers.stand(fiber, Standing::Ready(next));
-        if let Err(_) = self.ready.push_back(fiber) {
-            unreachable!()
-        }
+        self.ready.push_back_reserved(fiber);
     }
 
     /// The fiber raises this with its next move, and stands first in the ready list.
@@ -69,9 +65,7 @@ impl Domain {
         ensures same { OnOk result (SameCounts self.old self.new) }
     {
         self.fibers.throw(fiber, raised)?;
-        if let Err(_) = self.ready.push_head(fiber) {
-            unreachable!()
-        }
+        self.ready.push_head_reserved(fiber);
         Ok(())
     }
 
@@ -212,6 +206,7 @@ impl Domain {
         let Some(fiber) = fiber else {
             return;
         };
+        // Not one pattern with the one below: where that doesn't fit, the proof wouldn't know in which way.
         let Some(standing) = self.fibers.standing(fiber) else {
             return;
         };

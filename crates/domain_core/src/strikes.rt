@@ -42,9 +42,7 @@ impl Domain {
         let member = self.new_raise(why)?;
         self.contexts.unwait(fiber);
         self.fibers.throw(fiber, &Raised::Cancelled(member))?;
-        if let Err(_) = self.ready.push_back(fiber) {
-            unreachable!()
-        }
+        self.ready.push_back_reserved(fiber);
         *told = Told {
             fiber: strike.maker,
             did,
@@ -59,6 +57,7 @@ fn awaits_cancel(standing: Option<Standing>) -> bool
     ensures yes { result ≡ true → standing ≡ Some Standing.AwaitsCancel }
     ensures no { result ≡ false → standing ≢ Some Standing.AwaitsCancel }
 {
+    // Apart from `strike`, and no nested pattern, for the proof alone: facts are lost where branches come together.
     match standing {
         Some(stands) => match stands {
             Standing::AwaitsCancel => true,

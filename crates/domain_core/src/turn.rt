@@ -73,6 +73,7 @@ impl Domain {
             return Ok(Turn::Moved(self.next_line(&told)));
         }
         if objects.receive().is_some() {
+            // Nobody waits on an object, and no job was submitted (`AreFor`).
             unreachable!()
         }
         let Some(fiber) = self.ready.pop() else {
@@ -101,6 +102,7 @@ impl Domain {
         ensures same { OnOk result (SameCounts self.old self.new) }
         ensures texts { OnOk result (texts.new ≡ texts.old) }
     {
+        // A match and no `?`, for the proof alone: facts are lost where branches come together.
         match self.next_call(script, texts, fiber) {
             Ok(ask) => self.answer(script, fiber, &ask, told),
             Err(error) => Err(error),
@@ -189,6 +191,7 @@ impl Domain {
             } => self.close(script, fiber, switch, failed, kept, told),
             Ask::Branches { group, form } => self.branches(script, fiber, group, form, told),
             Ask::Join { group, own } => self.join(fiber, group, own, told),
+            // `answer` has the calls of its own; no other form is built (`MayAnswer`).
             _ => unreachable!(),
         }
     }
@@ -237,10 +240,8 @@ impl Domain {
                 let why = self.contexts.is_off(context).unwrap_or(Plain::Exit);
                 Ok(Outcome::Err(Raised::Cancelled(self.new_raise(why)?)))
             }
-            Standing::Throws(_) => match self.fibers.thrown(fiber) {
-                Some(raised) => Ok(Outcome::Err(*raised)),
-                None => unreachable!(),
-            },
+            Standing::Throws(_) => Ok(Outcome::Err(*self.fibers.thrown(fiber).unwrap())),
+            // A fiber of the ready list doesn't wait, and one that makes its call again isn't asked here (`IsReady`).
             _ => unreachable!(),
         }
     }
@@ -269,6 +270,7 @@ fn called_again(standing: Standing) -> Option<Again>
     ensures some { IfSome result (λ again. standing ≡ Standing.Ready (Next.CallsAgain again)) }
     ensures none { IfNone result ((again : Again) → standing ≢ Standing.Ready (Next.CallsAgain again)) }
 {
+    // Apart from `next_call`, and no nested pattern, for the proof alone: facts are lost where branches come together.
     match standing {
         Standing::Ready(next) => match next {
             Next::CallsAgain(again) => Some(again),

@@ -13,6 +13,7 @@ pub fn first_node(script: &Script, body: u8) -> u32
     ensures block { slice_get script.now.bodies body ≡ Some (block_at (nodes_of script.now) result) }
     ensures statements { HasStatements (nodes_of script.now) result }
 {
+    // For the proof alone: a law of scripts, by which the statements of the body stand at its node.
     script.is_sound();
     script.body(body)
 }

@@ -3,7 +3,7 @@
 //! Work goes by the numbers of the script's nodes, the next item last. Where a fiber stands is said under the nodes of its
 //! script (`position_of`).
 
-ghost use Rattle.std.specs.Prelude.{◌≡◌, ◌≤◌, ◌<◌, ◌+◌, List, [], ◌∷◌, ◌++◌, vec_len, vec_capacity};
+ghost use Rattle.std.specs.Prelude.{◌≡◌, List};
 ghost use Rattle.fiber_step.specs.Having.{HasStatements};
 ghost use Rattle.fiber_step.specs.Framing.{position_of};
 ghost use Rattle.fiber_step.specs.Placing.{ArePlaced};
@@ -134,21 +134,17 @@ impl Fiber {
     ///
     /// # Errors
     /// [`NoMemory`] where memory runs out; then the fiber is as it was.
-    pub(crate) fn keep(&mut self, changes: Changes) -> Result<(), NoMemory>
+    pub(crate) fn keep(&mut self, mut changes: Changes) -> Result<(), NoMemory>
         ensures ok { OnOk result (self.new ≡ changed self.old changes) }
         ensures err { OnErr result (self.new ≡ self.old) }
     {
-        let mut changes = changes;
         self.work.reserve(changes.items.len() + 1)?;
         self.variables.change(changes.kept, &mut changes.values)?;
         self.work.truncate(changes.left);
-        if let Err(_) = self.work.append(&mut changes.items) {
-            unreachable!()
+        self.work.append(&mut changes.items).unwrap();
+        if let Some(next) = changes.next {
+            self.work.push_reserved(Item::Mark(next));
         }
-        let Some(next) = changes.next else {
-            return Ok(());
-        };
-        push_reserved(&mut self.work, Item::Mark(next));
         Ok(())
     }
 
@@ -169,23 +165,10 @@ impl Fiber {
     {
         self.work.reserve(4)?;
         let own = replace(&mut self.variables, registered);
-        push_reserved(&mut self.work, Item::Mark(closing));
-        push_reserved(&mut self.work, Item::Restore(own));
-        push_reserved(&mut self.work, Item::Mark(end));
-        push_reserved(&mut self.work, Item::Mark(Mark::Run(handler)));
+        self.work.push_reserved(Item::Mark(closing));
+        self.work.push_reserved(Item::Restore(own));
+        self.work.push_reserved(Item::Mark(end));
+        self.work.push_reserved(Item::Mark(Mark::Run(handler)));
         Ok(())
-    }
-}
-
-/// One more item, for which there is room.
-fn push_reserved(work: &mut Vec<Item>, item: Item)
-    requires { vec_len work.old < vec_capacity work.old }
-    ensures items { work.new.items ≡ work.old.items ++ item ∷ [] }
-    ensures len { vec_len work.new ≡ vec_len work.old + 1 }
-    ensures capacity { vec_capacity work.old ≤ vec_capacity work.new }
-{
-    match work.push(item) {
-        Ok(()) => {}
-        Err(_) => unreachable!(),
     }
 }

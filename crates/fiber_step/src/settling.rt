@@ -93,6 +93,7 @@ impl<'f> FiberDraft<'f> {
         ensures bodies { IfOk result (λ call. HasBodiesOf (nodes_of script.now) call) }
     {
         let mut progress = self.receive(came, texts)?;
+        // The label is the loop's name in its proof.
         'turns: loop {
             match progress {
                 Progress::GoesOn(value) => progress = self.turn(script, value)?,

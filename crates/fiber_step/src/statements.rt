@@ -23,6 +23,7 @@ fn form_of(script: &Script, number: u32) -> u32
     ensures { IsForm (nodes_of script.now) number result }
 {
     let mut form = number;
+    // The label is the loop's name in its proof.
     'lets: while let Node::LetForm = script.node(form) {
         form += 1;
     }
@@ -47,6 +48,7 @@ impl<'f> FiberDraft<'f> {
         ensures { OnOk result (self.new ≡ record self.old { now = binding lets self.old.now }) }
     {
         let mut left = lets;
+        // The label is the loop's name in its proof.
         'binding: while left > 0 {
             let slot = self.slots();
             self.push(Mark::Bind { slot })?;

@@ -19,6 +19,7 @@ impl<'f> FiberDraft<'f> {
         ensures dropped { IfOk result (λ stop. IsDropped self.old.now (stopped stop self.new.now)) }
         ensures stop { IfOk result (λ stop. IsStop stop self.new.now) }
     {
+        // The label is the loop's name in its proof.
         'unwinding: loop {
             match self.take()? {
                 Taken::Nothing => return Ok(None),

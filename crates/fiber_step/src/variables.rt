@@ -73,10 +73,8 @@ impl Variables {
     {
         self.list.reserve(values.len())?;
         self.list.truncate(keep);
-        match self.list.append(values) {
-            Ok(()) => Ok(()),
-            Err(_) => unreachable!(),
-        }
+        self.list.append(values).unwrap();
+        Ok(())
     }
 }
 

@@ -114,6 +114,7 @@ fn run_domain<K: Sink>(
     ensures deadlock { IfOk result (λ ending. (ending ≡ Ending.Deadlock) ↔ IsStuck (run script.now steps).last.local) }
     ensures cause { HasRunCause (K.faults sink.old) (K.faults sink.new) result }
 {
+    // The label is the loop's name in its proof.
     'running: for made in 0..steps {
         match domain.turn(script, texts, objects)? {
             Turn::Moved(line) => write_line(sink, texts, script.names(), &line, buffer)?,

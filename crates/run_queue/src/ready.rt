@@ -1,9 +1,9 @@
 //! The ready list: the fibers that can move, the one that moves next first.
 //!
-//! A ring whose capacity is the most that may stand in it, so that a push fails exactly where the list is full. Each call
-//! takes constant time. The theorems are the clauses of the methods of [`Ready`], by `spec_parts`'s `ReadyList`.
+//! A ring whose capacity is the most that may stand in it, so that a push fails exactly where the list is full; a caller that
+//! knows that there is room has a push without an error. Each call takes constant time. The theorems are the clauses of the methods of [`Ready`], by `spec_parts`'s `ReadyList`.
 
-ghost use Rattle.std.specs.Prelude.{◌≡◌, ◌↔◌, [], IsErr, IsTrue, IfOk, OnOk, OnErr};
+ghost use Rattle.std.specs.Prelude.{◌≡◌, ◌↔◌, ◌<◌, [], length, IsErr, IsTrue, IfOk, OnOk, OnErr};
 ghost use Rattle.spec_parts.specs.ReadyList as list;
 
 use circular_buffer::HeapCircularBuffer;
@@ -56,6 +56,22 @@ impl Ready {
             Ok(()) => Ok(()),
             Err(_) => Err(Full),
         }
+    }
+
+    /// The fiber goes behind all others, where the list isn't full.
+    pub fn push_back_reserved(&mut self, fiber: u32)
+        requires room { length self.old.fibers < self.old.most }
+        ensures { self.new ≡ record self.old { fibers = list.push_back fiber self.old.fibers } }
+    {
+        self.fibers.push_back(fiber);
+    }
+
+    /// The fiber goes before all others, where the list isn't full.
+    pub fn push_head_reserved(&mut self, fiber: u32)
+        requires room { length self.old.fibers < self.old.most }
+        ensures { self.new ≡ record self.old { fibers = list.push_head fiber self.old.fibers } }
+    {
+        self.fibers.push_front(fiber);
     }
 
     /// The fiber that moves next leaves the list; `None` where it is empty.

@@ -76,9 +76,7 @@ impl Timers {
             fiber,
         };
         let place = self.standing.partition_point(|other| other.due <= due);
-        if let Err(_) = self.standing.insert(place, timer) {
-            unreachable!()
-        }
+        self.standing.insert(place, timer).unwrap();
         self.made += 1;
         Ok(())
     }

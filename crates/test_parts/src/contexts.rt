@@ -1,4 +1,7 @@
 //! Contexts, and the fibers that wait in them.
+//!
+//! Whether a context is live is asked, for the proof alone, before each call that has this as a condition: no clause of the calls
+//! before says it in these words.
 
 ghost use Rattle.std.specs.Prelude.{◌≡◌, ◌+◌, ◌-◌, ◌<◌, ◌≤◌, ◌^◌, true, length, vec_len, vec_capacity};
 ghost use Rattle.spec_parts.specs.ContextCalls as calls;

@@ -22,6 +22,7 @@ fn strikes_one(strikes: &mut Strikes, contexts: &mut Contexts) -> Result<bool, F
     requires new { contexts.old ≡ calls.no_contexts }
 {
     let top = contexts.root()?;
+    // For the proof alone: a condition of `wait`.
     if !contexts.is_live(top) {
         return Err(Full);
     }

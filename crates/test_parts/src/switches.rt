@@ -95,6 +95,7 @@ fn close_with_errors(switches: &mut Switches) -> Result<(&'static str, [bool; 4]
 {
     let sw = switches.open(0)?;
     let taken = switches.fail(sw, failure(1)).is_ok();
+    // For the proof alone: a condition of `close_step`.
     if switches.is_finished(sw) {
         return Ok(("finished", [false; 4]));
     }

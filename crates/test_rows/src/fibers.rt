@@ -23,6 +23,7 @@ use std::alloc::{AllocError, Global};
 fn begun(alloc: Global, kind: &str, number: i64, script: &Script) -> Result<Fiber, Unanswered>
     ensures { IfOk result (λ fiber. ArePlaced (nodes_of script.now) fiber.items) }
 {
+    // For the proof alone: a law of scripts, by which there is a main.
     script.is_sound();
     let main = first_node(script, 0);
     let none = Variables::new(Vec::new(alloc));

@@ -63,6 +63,7 @@ fn node_word(node: &Node) -> &'static str {
 
 /// Shows the number of the first node of a body, and the node.
 fn push_body(script: &Script, number: u8, out: &mut String) -> Result<(), AllocError> {
+    // For the proof alone: `push_parts` goes over the bodies that there are.
     if script.bodies() <= number {
         return Ok(());
     }

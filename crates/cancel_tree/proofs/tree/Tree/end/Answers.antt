@@ -1,5 +1,5 @@
-use Rattle.std.proofs.Common.{rules, ◌≡◌, ◌<◌, ◌+◌, Some, true, ◌∙◌, sym, ap, subst, length, arith, nat_lt, true≢false}
-use Rattle.std.specs.Prelude.{slice_get, is_some}
+use Rattle.std.proofs.Common.{rules, ◌≡◌, ◌<◌, ◌+◌, Some, true, ◌∙◌, sym, ap, subst, length, arith, nat_lt}
+use Rattle.std.specs.Prelude.{slice_get}
 use Rattle.std.proofs.lemmas.List.Sorted.{IsPartitionPoint-from_clause}
 use Rattle.slab.specs.Slab.{get}
 use Rattle.spec_parts.specs.Contexts.{is_live}
@@ -12,7 +12,7 @@ use Rattle.cancel_tree.proofs.Jumping.{jumps_left}
 use Rattle.cancel_tree.proofs.Changes.{ended_tree, ended_list, found_if}
 use Rattle.cancel_tree.proofs.Trees.{live_is_placed, is_there, has_value, at_own}
 use Rattle.cancel_tree.proofs.tree.Tree.end.Goals as goal
-use Rattle.cancel_tree.proofs.tree.Tree.end.Goals.{After-partition_point-index, In-Some}
+use Rattle.cancel_tree.proofs.tree.Tree.end.Goals.{After-partition_point-index, After-unwrap-place}
 
 -- the index parts the numbers at c
 parts : (c : After-partition_point-index) → Parts c.args.c c.self.inside.places.items c.partition_point-index.result
@@ -28,17 +28,18 @@ placed c =
     let found = found_if (place_at c.self.inside.places.items c.args.c) (sym (live_is_placed c.self.inside.made c.self.inside.kept c.self.inside.places.items c.self.invariant.tree c.args.c) ∙ lives) in
     record { place = found.0; at = found.1; there = at_index c.args.c _ found.0 (place_found c.args.c c.self.inside.places.items c.partition_point-index.result c.self.invariant.tree.rise (parts c) ∙ found.1) }
 
-pub unreachable-requires : goal.unreachable-requires
-unreachable-requires c =
-    let found = placed (goal.at.unreachable-requires c).After-partition_point-index in
+pub unwrap-place-requires : goal.unwrap-place-requires
+unwrap-place-requires c =
+    let found = placed (goal.at.unwrap-place-requires c).After-partition_point-index in
     let within : c.partition_point-index.result < c.self.inside.places.len = rw c.self.inside.places.ok.0 (slice_get-within _ _ found.place found.there) in
-    true≢false (sym (c.remove.ensures.variant.1 within) ∙ ap is_some c.in_default.is)
+    c.remove.ensures.variant.1 within
 
 -- that place is the one that is removed
-removed : (c : In-Some) → (found : FoundAt c.self.inside.places.items c.args.c c.partition_point-index.result) → found.place ≡ c.in-Some.place
+removed : (c : After-unwrap-place) → (found : FoundAt c.self.inside.places.items c.args.c c.partition_point-index.result) → found.place ≡ c.unwrap-place.result
 removed c found =
     let within : c.partition_point-index.result < length c.self.inside.places.items = slice_get-within _ _ found.place found.there in
-    let there : slice_get c.self.inside.places.items c.partition_point-index.result ≡ Some c.in-Some.place = slice_get-at _ _ c.in-Some.place within c.in-Some.ensures.value in
+    let value = rw c.unwrap-place.ensures at c.remove.ensures.value in
+    let there : slice_get c.self.inside.places.items c.partition_point-index.result ≡ Some c.unwrap-place.result = slice_get-at _ _ c.unwrap-place.result within value in
     let here : slice_get c.self.inside.places.items c.partition_point-index.result ≡ Some found.place = found.there in
     cc
 
@@ -46,39 +47,41 @@ pub remove-requires-2 : goal.remove-requires-2
 remove-requires-2 c =
     let found = placed (goal.at.remove-requires-2 c).After-partition_point-index in
     let there = is_there c.self.inside.made c.self.inside.kept c.self.inside.places.items c.self.invariant.tree found.place (at_own c.self.inside.places.items c.args.c found.place found.at) in
-    has_value _ there.0 (ap (λ (place : ContextKey). get c.self.inside.kept place.key) (sym (removed (goal.at.remove-requires-2 c).In-Some found)) ∙ there.1)
+    has_value _ there.0 (ap (λ (place : ContextKey). get c.self.inside.kept place.key) (sym (removed (goal.at.remove-requires-2 c).After-unwrap-place found)) ∙ there.1)
 
 -- where the removed place stood
-at_removed : (c : In-Some) → (found : FoundAt c.self.inside.places.items c.args.c c.partition_point-index.result)
-    → (place_at c.self.inside.places.items c.args.c ≡ Some c.in-Some.place) × (slice_get c.self.inside.places.items c.partition_point-index.result ≡ Some c.in-Some.place)
+at_removed : (c : After-unwrap-place) → (found : FoundAt c.self.inside.places.items c.args.c c.partition_point-index.result)
+    → (place_at c.self.inside.places.items c.args.c ≡ Some c.unwrap-place.result) × (slice_get c.self.inside.places.items c.partition_point-index.result ≡ Some c.unwrap-place.result)
 at_removed c found = (found.at ∙ ap Some (removed c found), found.there ∙ ap Some (removed c found))
 
 pub invariant_of-self : goal.invariant_of-self
 invariant_of-self c =
-    let at = at_removed (goal.at.invariant_of-self c).In-Some (placed (goal.at.invariant_of-self c).After-partition_point-index) in
+    let at = at_removed (goal.at.invariant_of-self c).After-unwrap-place (placed (goal.at.invariant_of-self c).After-partition_point-index) in
+    let items = rw c.unwrap-place.ensures at c.remove.ensures.items in
     let count : length (rest_of c.self.inside.places.items c.partition_point-index.result) + 1 ≡ length c.self.inside.places.items =
-    (let a : c.remove.new.self.len + 1 ≡ c.self.inside.places.len = c.in-Some.ensures.len in
+    (let a : c.remove.new.self.len + 1 ≡ c.self.inside.places.len = rw c.unwrap-place.ensures at c.remove.ensures.len in
     let b : c.remove.new.self.len ≡ length c.remove.new.self.items = c.remove.new.self.ok.0 in
     let d : c.self.inside.places.len ≡ length c.self.inside.places.items = c.self.inside.places.ok.0 in
-    let e : length c.remove.new.self.items ≡ length (rest_of c.self.inside.places.items c.partition_point-index.result) = ap length c.in-Some.ensures.items in
+    let e : length c.remove.new.self.items ≡ length (rest_of c.self.inside.places.items c.partition_point-index.result) = ap length items in
     omega arith) in
     let childless : HasNoLiveChild (contexts_in c.self.inside.made c.self.inside.kept c.self.inside.places.items) c.args.c = subst (λ contexts. HasNoLiveChild contexts c.args.c) (sym c.self.view_is) c.requires.childless in
     record {
       tree =
-          rw c.in-Some.ensures.items
-          (ended_tree c.self.inside.made c.self.inside.kept c.self.inside.places.items c.self.invariant.tree c.args.c c.partition_point-index.result c.in-Some.place c.remove-2.new.self at.0 at.1
+          rw items
+          (ended_tree c.self.inside.made c.self.inside.kept c.self.inside.places.items c.self.invariant.tree c.args.c c.partition_point-index.result c.unwrap-place.result c.remove-2.new.self at.0 at.1
           c.remove-2.ensures.updates childless count c.remove-2.ensures.len c.remove-2.ensures.capacity);
       jumps =
-          rw c.in-Some.ensures.items
-          (jumps_left c.self.inside.made c.self.inside.kept c.self.inside.places.items c.self.invariant.tree c.self.invariant.jumps c.args.c c.partition_point-index.result c.in-Some.place c.remove-2.new.self at.0 at.1
+          rw items
+          (jumps_left c.self.inside.made c.self.inside.kept c.self.inside.places.items c.self.invariant.tree c.self.invariant.jumps c.args.c c.partition_point-index.result c.unwrap-place.result c.remove-2.new.self at.0 at.1
           c.remove-2.ensures.updates childless);
       room = rw c.remove.ensures.capacity c.self.invariant.room;
     }
 
 pub returns : goal.returns
 returns c =
-    let at = at_removed (goal.at.returns c).In-Some (placed (goal.at.returns c).After-partition_point-index) in
-    ap (contexts_in c.self.inside.made c.remove-2.new.self) c.in-Some.ensures.items
-    ∙ ended_list c.self.inside.made c.self.inside.kept c.self.inside.places.items c.self.invariant.tree c.args.c c.partition_point-index.result c.in-Some.place c.remove-2.new.self at.0 at.1
+    let at = at_removed (goal.at.returns c).After-unwrap-place (placed (goal.at.returns c).After-partition_point-index) in
+    let items = rw c.unwrap-place.ensures at c.remove.ensures.items in
+    ap (contexts_in c.self.inside.made c.remove-2.new.self) items
+    ∙ ended_list c.self.inside.made c.self.inside.kept c.self.inside.places.items c.self.invariant.tree c.args.c c.partition_point-index.result c.unwrap-place.result c.remove-2.new.self at.0 at.1
     c.remove-2.ensures.updates (subst (λ contexts. HasNoLiveChild contexts c.args.c) (sym c.self.view_is) c.requires.childless)
     ∙ ap (without c.args.c) c.self.view_is

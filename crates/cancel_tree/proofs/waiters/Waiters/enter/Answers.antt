@@ -27,14 +27,16 @@ invariant_of-self c =
     let mapped : length (map waiting_of c.self.inside.entered.items) ≡ length c.self.inside.entered.items = length-map _ _ in
     let new : c.insert.new.self.len ≡ length c.insert.new.self.items = c.insert.new.self.ok.0 in
     let old : c.self.inside.entered.len ≡ length c.self.inside.entered.items = c.self.inside.entered.ok.0 in
-    let more : c.insert.new.self.len ≡ c.self.inside.entered.len + 1 = c.in_default.ensures.len in
+    let more : c.insert.new.self.len ≡ c.self.inside.entered.len + 1 = rw c.unwrap.ensures at c.insert.ensures.len in
     let grown : deque_capacity c.self.inside.entered ≤ deque_capacity c.insert.new.self = c.insert.ensures.capacity in
     let room : 1024 ≤ deque_capacity c.self.inside.entered = c.self.invariant.room in
-    record { rise = rw c.in_default.ensures.items (Rise-put (record { fiber = c.args.fiber; context = c.args.context }) c.self.inside.entered.items c.partition_point-index.result (parts begun) (out begun) c.self.invariant.rise); few = omega arith; room = omega arith }
+    let items = rw c.unwrap.ensures at c.insert.ensures.items in
+    record { rise = rw items (Rise-put (record { fiber = c.args.fiber; context = c.args.context }) c.self.inside.entered.items c.partition_point-index.result (parts begun) (out begun) c.self.invariant.rise); few = omega arith; room = omega arith }
 
 pub returns : goal.returns
 returns c =
     let begun = (goal.at.returns c).After-partition_point-index in
-    ap (map waiting_of) c.in_default.ensures.items
+    let items = rw c.unwrap.ensures at c.insert.ensures.items in
+    ap (map waiting_of) items
     ∙ sym (put_in-map (record { fiber = c.args.fiber; context = c.args.context }) c.self.inside.entered.items c.partition_point-index.result (parts begun) (out begun))
     ∙ ap (put_in (record { fiber = c.args.fiber; context = c.args.context })) c.self.view_is

@@ -57,11 +57,11 @@ returns-in_ok-new_raise-in-Ready-FindsOff-clause-came c = (
     c.in_ok-new_raise-in-Ready-FindsOff.field-0 c.new_raise-in-Ready-FindsOff.new.self
     c.in_ok-new_raise-in-Ready-FindsOff.ensures.raises (ap (λ (kept : KeptDomain). kept.serial) c.in_ok-new_raise-in-Ready-FindsOff.ensures.is))
 
-pub returns-in-Some-thrown-clause-came : goal.returns-in-Some-thrown-clause-came
-returns-in-Some-thrown-clause-came c = (
+pub returns-in-Throws-clause-came : goal.returns-in-Throws-clause-came
+returns-in-Throws-clause-came c = (
     let there = ap (λ (kept : KeptDomain). kept_at kept.fibers c.args.fiber) (sym c.self.view_is) ∙ c.at-found.ensures.1 in
-    let thrown_is : raised_of (standing_of c.at-found.ensures.0 c.at-found.result.now.standing) ≡ Some c.in-Some-thrown.raised.now =
-    sym (c.thrown.ensures ∙ ap (λ o. option_and_then (λ fiber. raised_of fiber.standing) o) c.at-found.ensures.1) ∙ ap option_copied c.in-Some-thrown.is in
+    let thrown_is : raised_of (standing_of c.at-found.ensures.0 c.at-found.result.now.standing) ≡ Some c.unwrap.result.now =
+    sym (c.thrown.ensures ∙ ap (λ o. option_and_then (λ fiber. raised_of fiber.standing) o) c.at-found.ensures.1) ∙ ap option_copied c.unwrap.ensures in
     let is : standing_of c.at-found.ensures.0 c.at-found.result.now.standing ≡ standing_of c.at-found.ensures.0 (standing.Throws c.in-Throws.field-0) = ap (standing_of c.at-found.ensures.0) c.in-Throws.is in
     let same = same_Some _ _ (sym (ap raised_of is) ∙ thrown_is) in
     subst (λ (it : Raised). GoesOnWith c.args.fiber (outcome.Err it) c.args.self.now c.args.self.now) same

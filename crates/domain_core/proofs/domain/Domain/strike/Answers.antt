@@ -25,8 +25,8 @@ unwait-requires c = (
     (awaits c.standing.ensures.0 (kept_at c.self.inside.fibers c.args.strike.fiber) c.standing.result c.standing.ensures.1 (c.awaits_cancel.ensures.yes c.if-not-awaits_cancel.false)) in
     ap (λ (kept : KeptDomain). waits c.args.strike.fiber kept.contexts.waiting) (c.self-2.view_is ∙ c.in_ok-member.ensures.is) ∙ c.requires.may.waits awaited)
 
-pub unreachable-requires : goal.unreachable-requires
-unreachable-requires c = (
+pub push_back_reserved-requires : goal.push_back_reserved-requires
+push_back_reserved-requires c = (
     let awaited : AwaitsCancel c.args.self.now c.args.strike.fiber =
     subst (λ (kept : KeptDomain). AwaitsCancel kept c.args.strike.fiber) c.self.view_is
     (awaits c.standing.ensures.0 (kept_at c.self.inside.fibers c.args.strike.fiber) c.standing.result c.standing.ensures.1 (c.awaits_cancel.ensures.yes c.if-not-awaits_cancel.false)) in
@@ -51,5 +51,5 @@ returns-clause-makes c = (
     wins c.args.strike.maker c.args.strike.fiber c.args.self.now c.self.inside.number (ap (λ (kept : KeptDomain). kept.number) c.self.view_is)
     _ there is (c.requires.may.live awaited _ there) c.in_ok-member.member
     (λ nodes texts l mirrors. c.in_ok-member.ensures.raises.is nodes texts l mirrors ∙ ap (λ (why : Plain). member why l) off_is)
-    _ (c.self-2.view_is ∙ c.in_ok-member.ensures.is) c.throw.new.self c.in_ok-throw.ensures.ok c.unwait.new.self c.unwait.ensures c.push_back.new.self.fibers
-    (ap (λ ready. ready.fibers) c.in_default.ensures.ok))
+    _ (c.self-2.view_is ∙ c.in_ok-member.ensures.is) c.throw.new.self c.in_ok-throw.ensures.ok c.unwait.new.self c.unwait.ensures c.push_back_reserved.new.self.fibers
+    (ap (λ ready. ready.fibers) c.push_back_reserved.ensures))

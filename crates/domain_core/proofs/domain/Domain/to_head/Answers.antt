@@ -6,10 +6,10 @@ use Rattle.domain_core.proofs.domain.Domain.to_head.Goals as goal
 
 pub returns-clause-becomes : goal.returns-clause-becomes
 returns-clause-becomes c =
-    becomes_at_head _ c.args.self.now c.self.view_is c.args.fiber c.requires.awake (next_of c.args.next) c.stand.new.self c.push_head.new.self.fibers c.stand.ensures
-    (ap (λ ready. ready.fibers) c.in_default.ensures.ok)
+    becomes_at_head _ c.args.self.now c.self.view_is c.args.fiber c.requires.awake (next_of c.args.next) c.stand.new.self c.push_head_reserved.new.self.fibers c.stand.ensures
+    (ap (λ ready. ready.fibers) c.push_head_reserved.ensures)
 
 pub returns-clause-awake : goal.returns-clause-awake
 returns-clause-awake c =
     stays_awake _ c.args.self.now c.self.view_is c.args.fiber c.requires.awake (λ fiber. record fiber { standing = model.Ready (next_of c.args.next) }) (λ f calm. refl)
-    c.stand.new.self c.push_head.new.self.fibers c.stand.ensures
+    c.stand.new.self c.push_head_reserved.new.self.fibers c.stand.ensures

@@ -29,9 +29,9 @@ invariant_of-self c =
     let after = (goal.at.invariant_of-self c).After-insert in
     let room : c.self.inside.most ≤ deque_capacity c.self.inside.standing = c.self.invariant.0 in
     let grown : deque_capacity c.self.inside.standing ≤ deque_capacity c.insert.new.self = c.insert.ensures.capacity in
-    (omega arith, rw (inserted after c.in_default.is) (IsInOrder-put (made_timer after) _ _ (place_found after) c.self.invariant.1))
+    (omega arith, rw (inserted after c.unwrap.ensures) (IsInOrder-put (made_timer after) _ _ (place_found after) c.self.invariant.1))
 
 pub returns-clause-ok : goal.returns-clause-ok
 returns-clause-ok c =
     let after = (goal.at.returns-clause-ok c).After-insert in
-    rw (← c.self.view_is) (rw (inserted after c.in_default.is) (rw (← put_in-map (made_timer after) _ _ (place_found after)) refl))
+    rw (← c.self.view_is) (rw (inserted after c.unwrap.ensures) (rw (← put_in-map (made_timer after) _ _ (place_found after)) refl))
