@@ -1,17 +1,32 @@
-use Rattle.std.proofs.Common.{length}
+use Rattle.std.proofs.Common.{◌≡◌, inl, inr, subst}
 use Rattle.script_forms.specs.Flat.{nodes_of}
-use Rattle.fiber_step.specs.Calling.{is_bare, has_own_block, hands_on, is_group, has_marks, has_operands, is_of_path}
-use Rattle.fiber_step.proofs.Parts.{has_parts}
-use Rattle.fiber_step.proofs.StepKinds.{other_kind, silent_left}
+use Rattle.script_forms.specs.declared.node.Node.{Node}
+use Rattle.script_forms.specs.declared.node.Node.TheVariants as node
+use Rattle.fiber_step.specs.Having.{HasParts, NoStatement}
+use Rattle.fiber_step.proofs.Parts.{has_parts, begins_within}
 use Rattle.fiber_step.proofs.step.step_at.Goals as goal
 
-pub step_within-requires-clause-silent : goal.step_within-requires-clause-silent
-step_within-requires-clause-silent c = λ n is.
-    silent_left (nodes_of c.args.script.now) c.args.number n (has_parts (nodes_of c.args.script.now) c.args.number n c.requires is)
-    (other_kind is_bare (nodes_of c.args.script.now) (length c.args.script.now.texts) c.args.number c.args.variables.now c.call_at_once.result c.call_at_once.ensures c.in_default.not-Some n is)
-    (other_kind has_own_block (nodes_of c.args.script.now) (length c.args.script.now.texts) c.args.number c.args.variables.now c.call_with_block.result (c.call_with_block.ensures c.args.variables.now) c.in_default-call_with_block.not-Some n is)
-    (other_kind hands_on (nodes_of c.args.script.now) (length c.args.script.now.texts) c.args.number c.args.variables.now c.call_with_job.result c.call_with_job.ensures c.in_default-call_with_job.not-Some n is)
-    (other_kind is_group (nodes_of c.args.script.now) (length c.args.script.now.texts) c.args.number c.args.variables.now c.branching.result (c.branching.ensures c.args.variables.now) c.in_default-branching.not-Some n is)
-    (other_kind has_marks (nodes_of c.args.script.now) (length c.args.script.now.texts) c.args.number c.args.variables.now c.block_at_once.result (c.block_at_once.ensures c.args.variables.now) c.in_default-block_at_once.not-Some n is)
-    (other_kind has_operands (nodes_of c.args.script.now) (length c.args.script.now.texts) c.args.number c.args.variables.now c.in_ok-stepped.field-0 c.in_ok-stepped.ensures c.in_default-2.not-Some n is)
-    (other_kind is_of_path (nodes_of c.args.script.now) (length c.args.script.now.texts) c.args.number c.args.variables.now c.in_ok-stepped-2.field-0 c.in_ok-stepped-2.ensures c.in_default-3.not-Some n is)
+pub node-requires : goal.node-requires
+node-requires c = begins_within _ _ c.requires
+
+pub unreachable-requires : goal.unreachable-requires
+unreachable-requires c =
+    let parts : (it : Node) → c.node.result.now ≡ it → HasParts (nodes_of c.args.script.now) c.args.number it =
+        λ it is. subst (λ n. HasParts (nodes_of c.args.script.now) c.args.number n) is (has_parts _ _ _ c.requires c.node.ensures.node) in
+    elim c.in-End.is [
+      | inl is ↦ parts node.End is
+      | inr (inl number) ↦ parts (node.Number number.0) number.1
+      | inr (inr (inl text)) ↦ parts (node.Text text.0) text.1
+      | inr (inr (inr (inl variable))) ↦ parts (node.Variable variable.0) variable.1
+      | inr (inr (inr (inr (inl is)))) ↦ parts node.Unit is
+      | inr (inr (inr (inr (inr operation)))) ↦ parts (node.Operation operation.0) operation.1
+    ]
+
+pub returns-in-Sub : goal.returns-in-Sub
+returns-in-Sub c = c.call_with_block.ensures c.args.variables.now
+
+pub returns-in-Branches : goal.returns-in-Branches
+returns-in-Branches c = c.branching.ensures c.args.variables.now
+
+pub returns-in-Try : goal.returns-in-Try
+returns-in-Try c = c.block_at_once.ensures c.args.variables.now
