@@ -1,4 +1,4 @@
--- A node that begins a statement is of one of the kinds.
+-- Which nodes are of each kind: one that is of the kind, and none of these, there is not.
 use Rattle.std.proofs.Common.{◌≡◌, ℕ, List, Bool, true, false, refl, sym}
 use Rattle.eio_value.specs.declared.value.TextId.{TextId}
 use Rattle.script_forms.specs.declared.node.Directory.{Directory}
@@ -74,4 +74,3 @@ silent_only node.Give is no_let no_let_form no_if no_give no_raise no_repeat = n
 silent_only (node.Raise text) is no_let no_let_form no_if no_give no_raise no_repeat = no_raise text refl
 silent_only (node.Repeat n after) is no_let no_let_form no_if no_give no_raise no_repeat = no_repeat n after refl
 silent_only other is no_let no_let_form no_if no_give no_raise no_repeat = true_false (sym is)
-

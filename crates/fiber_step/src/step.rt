@@ -92,11 +92,7 @@ pub(crate) fn step_at(script: &Script, number: u32, variables: &InScope) -> Resu
         | Node::Give
         | Node::Raise(_)
         | Node::Repeat { .. } => step_within(script, number, variables),
-        Node::End
-        | Node::Number(_)
-        | Node::Text(_)
-        | Node::Variable(_)
-        | Node::Unit
-        | Node::Operation(_) => unreachable!(),
+        // Neither an expression nor the end of a block begins a statement.
+        _ => unreachable!(),
     }
 }
