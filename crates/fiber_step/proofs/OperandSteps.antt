@@ -13,7 +13,7 @@ use Rattle.script_forms.specs.declared.node.Node.TheVariants as node
 use Rattle.script_forms.specs.declared.node.ObjectCallWith.{ObjectCallWith}
 use Rattle.script_forms.specs.declared.node.PathCall.{PathCall}
 use Rattle.spec_fiber.specs.Asks as model
-use Rattle.spec_fiber.specs.Evaluation.{Is, Raises, number_at, value_of, values_of, number_of, text_of}
+use Rattle.spec_fiber.specs.Evaluation.{Is, Raises, held_number, value_of, values_of, number_of, text_of}
 use Rattle.spec_fiber.specs.Silent.{asks, place_in, statement, with_value}
 use Rattle.fiber_step.specs.Standing.{place_of}
 use Rattle.fiber_step.specs.Stepping.{IsRaise}
@@ -76,16 +76,16 @@ unfolding statement
 take_bytes_raises nodes texts at n_at variables what reader knows e is =
     let here = known_at nodes texts at n_at (node.TakeBytes reader) knows e in
     raised nodes at variables (syntax.TakeBytes reader (expression_at nodes (at + 1))) _ what here.stands
-    (λ c same. value_raises (number_of c.variables (expression_at nodes (at + 1))) what c (λ it. asks (model.TakeBytes (number_at c.variables reader) it) c) (is ∙ ap (λ those. number_of those (expression_at nodes (at + 1))) (sym same)))
+    (λ c same. value_raises (number_of c.variables (expression_at nodes (at + 1))) what c (λ it. asks (model.TakeBytes (held_number c.variables reader) it) c) (is ∙ ap (λ those. number_of those (expression_at nodes (at + 1))) (sym same)))
 
 pub take_bytes_step : (nodes : List Node) (texts at : ℕ) (n_at : Node) (variables : List Value) (call : Ask) (after : ℕ) (reader : ℕ) (given : ℤ) (found : ℕ) → Knows nodes texts at n_at → n_at ≡ (node.TakeBytes reader)
-    → Is given ≡ number_of variables (expression_at nodes (at + 1)) → found ≡ number_at variables reader → call ≡ ask.TakeBytes found given → after ≡ behind_expression nodes (at + 1) → IsCallStep nodes texts at variables call after
+    → Is given ≡ number_of variables (expression_at nodes (at + 1)) → found ≡ held_number variables reader → call ≡ ask.TakeBytes found given → after ≡ behind_expression nodes (at + 1) → IsCallStep nodes texts at variables call after
 unfolding statement
 take_bytes_step nodes texts at n_at variables call after reader given found knows e is found_is call_is after_is =
     let here = known_at nodes texts at n_at (node.TakeBytes reader) knows e in
     called nodes texts at variables (syntax.TakeBytes reader (expression_at nodes (at + 1))) call (ask.TakeBytes found given) after (behind_expression nodes (at + 1)) call_is after_is here.stands here.parts.1 tt tt
-    (λ c same. value_gives (number_of c.variables (expression_at nodes (at + 1))) given c (λ it. asks (model.TakeBytes (number_at c.variables reader) it) c) (is ∙ ap (λ those. number_of those (expression_at nodes (at + 1))) (sym same))
-    ∙ ap (λ which_one. asks (model.TakeBytes which_one given) c) (ap (λ those. (number_at those reader)) same ∙ sym found_is))
+    (λ c same. value_gives (number_of c.variables (expression_at nodes (at + 1))) given c (λ it. asks (model.TakeBytes (held_number c.variables reader) it) c) (is ∙ ap (λ those. number_of those (expression_at nodes (at + 1))) (sym same))
+    ∙ ap (λ which_one. asks (model.TakeBytes which_one given) c) (ap (λ those. (held_number those reader)) same ∙ sym found_is))
 
 pub put_raises : (nodes : List Node) (texts at : ℕ) (n_at : Node) (variables : List Value) (what : Plain) (writer : ℕ) → Knows nodes texts at n_at → n_at ≡ (node.Put writer)
     → Raises what ≡ text_of variables (expression_at nodes (at + 1)) → IsRaise nodes at variables what
@@ -93,16 +93,16 @@ unfolding statement
 put_raises nodes texts at n_at variables what writer knows e is =
     let here = known_at nodes texts at n_at (node.Put writer) knows e in
     raised nodes at variables (syntax.Put writer (expression_at nodes (at + 1))) _ what here.stands
-    (λ c same. value_raises (text_of c.variables (expression_at nodes (at + 1))) what c (λ it. asks (model.PutText (number_at c.variables writer) it) c) (is ∙ ap (λ those. text_of those (expression_at nodes (at + 1))) (sym same)))
+    (λ c same. value_raises (text_of c.variables (expression_at nodes (at + 1))) what c (λ it. asks (model.PutText (held_number c.variables writer) it) c) (is ∙ ap (λ those. text_of those (expression_at nodes (at + 1))) (sym same)))
 
 pub put_step : (nodes : List Node) (texts at : ℕ) (n_at : Node) (variables : List Value) (call : Ask) (after : ℕ) (writer : ℕ) (given : TextId) (found : ℕ) → Knows nodes texts at n_at → n_at ≡ (node.Put writer)
-    → Is given ≡ text_of variables (expression_at nodes (at + 1)) → found ≡ number_at variables writer → call ≡ ask.PutText found given → after ≡ behind_expression nodes (at + 1) → IsCallStep nodes texts at variables call after
+    → Is given ≡ text_of variables (expression_at nodes (at + 1)) → found ≡ held_number variables writer → call ≡ ask.PutText found given → after ≡ behind_expression nodes (at + 1) → IsCallStep nodes texts at variables call after
 unfolding statement
 put_step nodes texts at n_at variables call after writer given found knows e is found_is call_is after_is =
     let here = known_at nodes texts at n_at (node.Put writer) knows e in
     called nodes texts at variables (syntax.Put writer (expression_at nodes (at + 1))) call (ask.PutText found given) after (behind_expression nodes (at + 1)) call_is after_is here.stands here.parts.1 tt tt
-    (λ c same. value_gives (text_of c.variables (expression_at nodes (at + 1))) given c (λ it. asks (model.PutText (number_at c.variables writer) it) c) (is ∙ ap (λ those. text_of those (expression_at nodes (at + 1))) (sym same))
-    ∙ ap (λ which_one. asks (model.PutText which_one given) c) (ap (λ those. (number_at those writer)) same ∙ sym found_is))
+    (λ c same. value_gives (text_of c.variables (expression_at nodes (at + 1))) given c (λ it. asks (model.PutText (held_number c.variables writer) it) c) (is ∙ ap (λ those. text_of those (expression_at nodes (at + 1))) (sym same))
+    ∙ ap (λ which_one. asks (model.PutText which_one given) c) (ap (λ those. (held_number those writer)) same ∙ sym found_is))
 
 pub open_dir_raises : (nodes : List Node) (texts at : ℕ) (n_at : Node) (variables : List Value) (what : Plain) (directory : Directory) (n from_here : ℕ) → Knows nodes texts at n_at → n_at ≡ (node.OpenDir directory n from_here)
     → Raises what ≡ text_of variables (expression_at nodes (at + 1)) → IsRaise nodes at variables what

@@ -1,5 +1,5 @@
 -- The statement that begins at a number, and the kinds of nodes by what their statements come to.
-use Rattle.std.specs.Prelude.{ℕ, Bool, true, false, List}
+use Rattle.std.specs.Prelude.{◌≡◌, ℕ, Bool, true, false, List, Some, slice_get}
 use Rattle.spec_script.specs.Syntax as syntax
 use Rattle.spec_script.specs.Syntax.{Statement, Statements, Done, Then}
 use Rattle.script_code.specs.Standing.{statements_at}
@@ -13,6 +13,10 @@ first_statement (Then it rest) = it
 
 abbrev pub statement_at : List Node → (number : ℕ) → Statement
 statement_at nodes number = first_statement (statements_at nodes number)
+
+-- the node at a number is of a kind
+abbrev pub IsOfKind : (Node → Bool) → List Node → (number : ℕ) → Type 0
+IsOfKind kind nodes number = (it : Node) → slice_get nodes number ≡ Some it → kind it ≡ true
 
 -- whether a node begins a statement that calls with no operand to be evaluated and no block
 abbrev pub is_bare : Node → Bool

@@ -1,5 +1,5 @@
 -- What the statement at a number comes to, beside the definition's `statement`.
-use Rattle.std.specs.Prelude.{◌≡◌, ◌<◌, ◌≤◌, ◌^◌, ℕ, suc, ◌+◌, Bool, false, List, length, ℤ, pos, Option, Some, None, Result, Ok, Err, slice_get}
+use Rattle.std.specs.Prelude.{◌≡◌, ◌<◌, ◌≤◌, ◌^◌, ℕ, suc, ◌+◌, List, length, ℤ, pos, Some, Result, Ok, Err, slice_get}
 use Rattle.std.specs.List.{AllByRecursion as Each}
 use Rattle.eio_value.specs.declared.plain.Misuse.{Misuse}
 use Rattle.eio_value.specs.declared.plain.Plain.{Plain}
@@ -123,16 +123,6 @@ pub record IsStepped (nodes : List Node) (texts number : ℕ) (variables : List 
 abbrev pub IsStepOf : List Node → (texts number : ℕ) → List Value → Result Stepped Misuse → Type 0
 IsStepOf nodes texts number variables (Ok it) = IsStepped nodes texts number variables it
 IsStepOf nodes texts number variables (Err why) = IsRaise nodes number variables (Invalid why)
-
--- the step of a statement, where its node is of this kind
-abbrev pub IsStepIf : (Node → Bool) → List Node → (texts number : ℕ) → List Value → Option Stepped → Type 0
-IsStepIf kind nodes texts number variables None = (n : Node) → slice_get nodes number ≡ Some n → kind n ≡ false
-IsStepIf kind nodes texts number variables (Some it) = IsStepped nodes texts number variables it
-
--- the same where it may raise
-abbrev pub IsStepOrRaiseIf : (Node → Bool) → List Node → (texts number : ℕ) → List Value → Result (Option Stepped) Misuse → Type 0
-IsStepOrRaiseIf kind nodes texts number variables (Ok it) = IsStepIf kind nodes texts number variables it
-IsStepOrRaiseIf kind nodes texts number variables (Err why) = IsRaise nodes number variables (Invalid why)
 
 -- ## Turns and branches
 

@@ -31,7 +31,7 @@ pub enum Ask {
         body: u32,
     },
     Cancel {
-        context: u64,
+        context: u32,
         text: TextId,
     },
     Switch {
@@ -39,15 +39,15 @@ pub enum Ask {
     },
     Fork {
         forking: Forking,
-        switch: u64,
+        switch: u32,
         body: u32,
     },
     Fail {
-        switch: u64,
+        switch: u32,
         text: TextId,
     },
     OnRelease {
-        switch: u64,
+        switch: u32,
         handler: u32,
     },
     /// The blocks are those of the form at this node, of which there is at least one; the caller runs the last.
@@ -165,7 +165,7 @@ pub enum Ask {
 
 impl Ask {
     /// A fork into a switch.
-    pub(crate) fn forking(forking: Forking, switch: u64, body: u32) -> Ask
+    pub(crate) fn forking(forking: Forking, switch: u32, body: u32) -> Ask
         ensures { result ≡ Ask.Fork forking switch body }
     {
         Ask::Fork {

@@ -2,9 +2,9 @@
 
 ghost use Rattle.std.specs.Prelude.{◌≡◌, ◌≤◌, length, map, List};
 ghost use Rattle.eio_value.specs.declared.value.Value.{Value as Item};
-ghost use Rattle.fiber_step.specs.Calling.{is_bare, has_own_block, hands_on};
+ghost use Rattle.fiber_step.specs.Calling.{IsOfKind, is_bare, has_own_block, hands_on};
 ghost use Rattle.fiber_step.specs.Having.{BeginsStatement};
-ghost use Rattle.fiber_step.specs.Stepping.{IsStepIf};
+ghost use Rattle.fiber_step.specs.Stepping.{IsStepped};
 ghost use Rattle.script_forms.specs.Flat.{nodes_of};
 ghost use Rattle.spec_script.specs.Limits.{most_captured};
 ghost use Rattle.spec_fiber.specs.Evaluation.{value_at};
@@ -16,10 +16,11 @@ use eio_value::Operands;
 use script_code::Script;
 use script_forms::Node;
 
-/// The step of a statement that calls, and has neither operands nor blocks. Other statements have none here.
-pub(crate) fn call_at_once(script: &Script, number: u32, variables: &InScope) -> Option<Stepped>
-    requires { BeginsStatement (nodes_of script.now) number }
-    ensures { IsStepIf is_bare (nodes_of script.now) (length script.now.texts) number variables.now result }
+/// The step of a statement that calls, and has neither operands nor blocks.
+pub(crate) fn call_at_once(script: &Script, number: u32, variables: &InScope) -> Stepped
+    requires statement { BeginsStatement (nodes_of script.now) number }
+    requires kind { IsOfKind is_bare (nodes_of script.now) number }
+    ensures { IsStepped (nodes_of script.now) (length script.now.texts) number variables.now result }
 {
     let call = match *script.node(number) {
         Node::Yield => Ask::Yield,
@@ -27,11 +28,11 @@ pub(crate) fn call_at_once(script: &Script, number: u32, variables: &InScope) ->
         Node::AwaitCancel => Ask::AwaitCancel,
         Node::Now => Ask::Now,
         Node::Cancel { context, text } => Ask::Cancel {
-            context: variables.number(context),
+            context: variables.context(context),
             text,
         },
         Node::Fail { switch, text } => Ask::Fail {
-            switch: variables.number(switch),
+            switch: variables.switch(switch),
             text,
         },
         Node::OnObject { call, object } => Ask::OnObject { call, object },
@@ -40,18 +41,19 @@ pub(crate) fn call_at_once(script: &Script, number: u32, variables: &InScope) ->
             reader: variables.number(reader),
         },
         Node::Copy { from, to } => Ask::Copy { from, to },
-        _ => return None,
+        _ => unreachable!(),
     };
-    Some(Stepped {
+    Stepped {
         step: Step::Calls(call),
         after: number + 1,
-    })
+    }
 }
 
-/// The step of a statement whose call goes into its block. Other statements have none here.
-pub(crate) fn call_with_block(script: &Script, number: u32) -> Option<Stepped>
-    requires { BeginsStatement (nodes_of script.now) number }
-    ensures { (variables : List Item) → IsStepIf has_own_block (nodes_of script.now) (length script.now.texts) number variables result }
+/// The step of a statement whose call goes into its block.
+pub(crate) fn call_with_block(script: &Script, number: u32) -> Stepped
+    requires statement { BeginsStatement (nodes_of script.now) number }
+    requires kind { IsOfKind has_own_block (nodes_of script.now) number }
+    ensures { (variables : List Item) → IsStepped (nodes_of script.now) (length script.now.texts) number variables result }
 {
     let (call, after) = match *script.node(number) {
         Node::Sub { body, after } => (Ask::Sub { body }, after),
@@ -64,18 +66,17 @@ pub(crate) fn call_with_block(script: &Script, number: u32) -> Option<Stepped>
             after,
         } => (Ask::OpenReader { flow, limit, body }, after),
         Node::BufWrite { flow, body, after } => (Ask::OpenWriter { flow, body }, after),
-        _ => return None,
+        _ => unreachable!(),
     };
-    Some(Stepped {
-        step: Step::Calls(call),
-        after,
-    })
+    let step = Step::Calls(call);
+    Stepped { step, after }
 }
 
-/// The step of a statement whose call hands a block on. Other statements have none here.
-pub(crate) fn call_with_job(script: &Script, number: u32, variables: &InScope) -> Option<Stepped>
-    requires { BeginsStatement (nodes_of script.now) number }
-    ensures { IsStepIf hands_on (nodes_of script.now) (length script.now.texts) number variables.now result }
+/// The step of a statement whose call hands a block on.
+pub(crate) fn call_with_job(script: &Script, number: u32, variables: &InScope) -> Stepped
+    requires statement { BeginsStatement (nodes_of script.now) number }
+    requires kind { IsOfKind hands_on (nodes_of script.now) number }
+    ensures { IsStepped (nodes_of script.now) (length script.now.texts) number variables.now result }
 {
     let (call, after) = match script.node(number) {
         Node::Fork {
@@ -84,7 +85,7 @@ pub(crate) fn call_with_job(script: &Script, number: u32, variables: &InScope) -
             body,
             after,
         } => {
-            let switch = variables.number(*switch);
+            let switch = variables.switch(*switch);
             (Ask::forking(*forking, switch, *body), *after)
         }
         Node::OnRelease {
@@ -92,7 +93,7 @@ pub(crate) fn call_with_job(script: &Script, number: u32, variables: &InScope) -
             handler,
             after,
         } => {
-            let switch = variables.number(*switch);
+            let switch = variables.switch(*switch);
             let handler = *handler;
             (Ask::OnRelease { switch, handler }, *after)
         }
@@ -106,10 +107,10 @@ pub(crate) fn call_with_job(script: &Script, number: u32, variables: &InScope) -
             let given = values_of(captured.as_slice(), variables);
             (Ask::submitting(*executor, *weight, given, *job), *after)
         }
-        _ => return None,
+        _ => unreachable!(),
     };
     let step = Step::Calls(call);
-    Some(Stepped { step, after })
+    Stepped { step, after }
 }
 
 /// The values of some slots.

@@ -1,10 +1,10 @@
 //! Statements that call with operands. An operand that raises ends the statement.
 
 ghost use Rattle.std.specs.Prelude.{◌≡◌, length};
-ghost use Rattle.fiber_step.specs.Calling.{has_operands, is_of_path};
+ghost use Rattle.fiber_step.specs.Calling.{IsOfKind, has_operands, is_of_path};
 ghost use Rattle.fiber_step.specs.Having.{BeginsStatement};
 ghost use Rattle.fiber_step.specs.Standing.{place_of};
-ghost use Rattle.fiber_step.specs.Stepping.{IsStepOrRaiseIf};
+ghost use Rattle.fiber_step.specs.Stepping.{IsStepOf};
 ghost use Rattle.script_forms.specs.Calls.{directory_of};
 ghost use Rattle.script_forms.specs.Flat.{nodes_of};
 ghost use Rattle.spec_fiber.specs.Silent.{place_in};
@@ -17,14 +17,15 @@ use eio_value::Misuse;
 use script_code::Script;
 use script_forms::{Directory, Node};
 
-/// The step of a statement that calls with operands of any kind. Other statements have none here.
+/// The step of a statement that calls with operands of any kind.
 pub(crate) fn call_with_operands(
     script: &Script,
     number: u32,
     variables: &InScope,
-) -> Result<Option<Stepped>, Misuse>
-    requires { BeginsStatement (nodes_of script.now) number }
-    ensures { IsStepOrRaiseIf has_operands (nodes_of script.now) (length script.now.texts) number variables.now result }
+) -> Result<Stepped, Misuse>
+    requires statement { BeginsStatement (nodes_of script.now) number }
+    requires kind { IsOfKind has_operands (nodes_of script.now) number }
+    ensures { IsStepOf (nodes_of script.now) (length script.now.texts) number variables.now result }
 {
     let (call, after) = match *script.node(number) {
         Node::Trace(count) => {
@@ -51,20 +52,21 @@ pub(crate) fn call_with_operands(
             let text = written.text;
             (Ask::PutText { writer, text }, written.behind)
         }
-        _ => return Ok(None),
+        _ => unreachable!(),
     };
     let step = Step::Calls(call);
-    Ok(Some(Stepped { step, after }))
+    Ok(Stepped { step, after })
 }
 
-/// The step of a statement that calls with a path. Other statements have none here.
+/// The step of a statement that calls with a path.
 pub(crate) fn call_on_path(
     script: &Script,
     number: u32,
     variables: &InScope,
-) -> Result<Option<Stepped>, Misuse>
-    requires { BeginsStatement (nodes_of script.now) number }
-    ensures { IsStepOrRaiseIf is_of_path (nodes_of script.now) (length script.now.texts) number variables.now result }
+) -> Result<Stepped, Misuse>
+    requires statement { BeginsStatement (nodes_of script.now) number }
+    requires kind { IsOfKind is_of_path (nodes_of script.now) number }
+    ensures { IsStepOf (nodes_of script.now) (length script.now.texts) number variables.now result }
 {
     let (call, after) = match *script.node(number) {
         Node::OpenDir {
@@ -92,10 +94,10 @@ pub(crate) fn call_on_path(
             let call = Ask::saving(only_new, place, named.text, saved.text);
             (call, saved.behind)
         }
-        _ => return Ok(None),
+        _ => unreachable!(),
     };
     let step = Step::Calls(call);
-    Ok(Some(Stepped { step, after }))
+    Ok(Stepped { step, after })
 }
 
 /// The directory that a statement names.

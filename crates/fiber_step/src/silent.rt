@@ -1,12 +1,11 @@
 //! Statements that go on within the fiber: values, names, and the blocks of branching, catching and repeating.
 
-ghost use Rattle.std.specs.Prelude.{◌≡◌, if◌then◌else◌, length, true, List, Some, slice_get};
+ghost use Rattle.std.specs.Prelude.{◌≡◌, if◌then◌else◌, length, List};
 ghost use Rattle.eio_value.specs.declared.value.Value.{Value as Item};
-ghost use Rattle.fiber_step.specs.Calling.{has_marks, is_group, is_silent};
+ghost use Rattle.fiber_step.specs.Calling.{IsOfKind, has_marks, is_group, is_silent};
 ghost use Rattle.fiber_step.specs.Having.{BeginsStatement};
-ghost use Rattle.fiber_step.specs.Stepping.{IsStepIf, IsStepOf, HasFewLeft, repeats_step, unbranched};
+ghost use Rattle.fiber_step.specs.Stepping.{IsStepped, IsStepOf, HasFewLeft, repeats_step, unbranched};
 ghost use Rattle.script_forms.specs.Flat.{nodes_of};
-ghost use Rattle.script_forms.specs.declared.node.Node.{Node as Begun};
 ghost use Rattle.spec_fiber.specs.Silent.{is_zero};
 
 use crate::ask::Ask;
@@ -17,10 +16,11 @@ use eio_value::{Misuse, Value};
 use script_code::Script;
 use script_forms::{Group, Node};
 
-/// The step of a statement that goes into a block with nothing evaluated before. Other statements have none here.
-pub(crate) fn block_at_once(script: &Script, number: u32) -> Option<Stepped>
-    requires { BeginsStatement (nodes_of script.now) number }
-    ensures { (variables : List Item) → IsStepIf has_marks (nodes_of script.now) (length script.now.texts) number variables result }
+/// The step of a statement that goes into a block with nothing evaluated before.
+pub(crate) fn block_at_once(script: &Script, number: u32) -> Stepped
+    requires statement { BeginsStatement (nodes_of script.now) number }
+    requires kind { IsOfKind has_marks (nodes_of script.now) number }
+    ensures { (variables : List Item) → IsStepped (nodes_of script.now) (length script.now.texts) number variables result }
 {
     let (step, after) = match *script.node(number) {
         Node::Try {
@@ -31,15 +31,16 @@ pub(crate) fn block_at_once(script: &Script, number: u32) -> Option<Stepped>
         Node::Loop { body, after } => (Step::Looped { body }, after),
         Node::UseRw { mutex, body, after } => (Step::Locks { mutex, body }, after),
         Node::UsePool { pool, body, after } => (Step::Uses { pool, body }, after),
-        _ => return None,
+        _ => unreachable!(),
     };
-    Some(Stepped { step, after })
+    Stepped { step, after }
 }
 
-/// The step of a form with branches. Other statements have none here.
-pub(crate) fn branching(script: &Script, number: u32) -> Option<Stepped>
-    requires { BeginsStatement (nodes_of script.now) number }
-    ensures { (variables : List Item) → IsStepIf is_group (nodes_of script.now) (length script.now.texts) number variables result }
+/// The step of a form with branches.
+pub(crate) fn branching(script: &Script, number: u32) -> Stepped
+    requires statement { BeginsStatement (nodes_of script.now) number }
+    requires kind { IsOfKind is_group (nodes_of script.now) number }
+    ensures { (variables : List Item) → IsStepped (nodes_of script.now) (length script.now.texts) number variables result }
 {
     let Node::Branches {
         group,
@@ -47,7 +48,7 @@ pub(crate) fn branching(script: &Script, number: u32) -> Option<Stepped>
         after,
     } = script.node(number)
     else {
-        return None;
+        unreachable!();
     };
     let step = if blocks.as_slice().is_empty() {
         without_branches(*group)
@@ -57,10 +58,10 @@ pub(crate) fn branching(script: &Script, number: u32) -> Option<Stepped>
             form: number,
         })
     };
-    Some(Stepped {
+    Stepped {
         step,
         after: *after,
-    })
+    }
 }
 
 /// The step of a form that has no branches. An `all` is past at once, and an `any` awaits its cancellation; the others always
@@ -74,14 +75,14 @@ fn without_branches(group: Group) -> Step
     }
 }
 
-/// The step of every other statement.
+/// The step of a statement that names or gives a value, branches, raises or repeats.
 pub(crate) fn step_within(
     script: &Script,
     number: u32,
     variables: &InScope,
 ) -> Result<Stepped, Misuse>
     requires statement { BeginsStatement (nodes_of script.now) number }
-    requires silent { (n : Begun) → slice_get (nodes_of script.now) number ≡ Some n → is_silent n ≡ true }
+    requires kind { IsOfKind is_silent (nodes_of script.now) number }
     ensures { IsStepOf (nodes_of script.now) (length script.now.texts) number variables.now result }
 {
     let (step, after) = match *script.node(number) {

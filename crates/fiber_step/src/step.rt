@@ -15,6 +15,7 @@ use crate::silent::{block_at_once, branching, step_within};
 use crate::variables::InScope;
 use eio_value::{Misuse, TextId, Value};
 use script_code::Script;
+use script_forms::Node;
 
 /// What a statement comes to.
 #[derive(Clone, Copy)]
@@ -55,26 +56,43 @@ pub(crate) fn step_at(script: &Script, number: u32, variables: &InScope) -> Resu
     requires { BeginsStatement (nodes_of script.now) number }
     ensures { IsStepOf (nodes_of script.now) (length script.now.texts) number variables.now result }
 {
-    if let Some(stepped) = call_at_once(script, number, variables) {
-        return Ok(stepped);
+    match *script.node(number) {
+        Node::Yield
+        | Node::Check
+        | Node::AwaitCancel
+        | Node::Now
+        | Node::Cancel { .. }
+        | Node::Fail { .. }
+        | Node::OnObject { .. }
+        | Node::OnReader { .. }
+        | Node::Copy { .. } => Ok(call_at_once(script, number, variables)),
+        Node::Sub { .. }
+        | Node::Protect { .. }
+        | Node::Switch { .. }
+        | Node::BufRead { .. }
+        | Node::BufWrite { .. } => Ok(call_with_block(script, number)),
+        Node::Fork { .. } | Node::OnRelease { .. } | Node::Submit { .. } => {
+            Ok(call_with_job(script, number, variables))
+        }
+        Node::Branches { .. } => Ok(branching(script, number)),
+        Node::Try { .. } | Node::Loop { .. } | Node::UseRw { .. } | Node::UsePool { .. } => {
+            Ok(block_at_once(script, number))
+        }
+        Node::Trace(_)
+        | Node::OnObjectWith { .. }
+        | Node::Sleep
+        | Node::TakeBytes { .. }
+        | Node::Put { .. } => call_with_operands(script, number, variables),
+        Node::OpenDir { .. } | Node::OnPath { .. } | Node::Save { .. } => {
+            call_on_path(script, number, variables)
+        }
+        Node::Let
+        | Node::LetForm
+        | Node::If { .. }
+        | Node::Give
+        | Node::Raise(_)
+        | Node::Repeat { .. } => step_within(script, number, variables),
+        // Neither an expression nor the end of a block begins a statement.
+        _ => unreachable!(),
     }
-    if let Some(stepped) = call_with_block(script, number) {
-        return Ok(stepped);
-    }
-    if let Some(stepped) = call_with_job(script, number, variables) {
-        return Ok(stepped);
-    }
-    if let Some(stepped) = branching(script, number) {
-        return Ok(stepped);
-    }
-    if let Some(stepped) = block_at_once(script, number) {
-        return Ok(stepped);
-    }
-    if let Some(stepped) = call_with_operands(script, number, variables)? {
-        return Ok(stepped);
-    }
-    if let Some(stepped) = call_on_path(script, number, variables)? {
-        return Ok(stepped);
-    }
-    step_within(script, number, variables)
 }

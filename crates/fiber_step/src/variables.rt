@@ -96,7 +96,7 @@ impl<'v> Model for InScope<'v> {
 
 impl<'v> InScope<'v> {
     ghost use Rattle.std.specs.Prelude.{◌++◌, length};
-    ghost use Rattle.spec_fiber.specs.Evaluation.{value_at, number_at};
+    ghost use Rattle.spec_fiber.specs.Evaluation.{value_at, held_context, held_switch, held_number};
 
     /// These, and those behind them.
     pub fn new(kept: &'v [Value], since: &'v [Value]) -> InScope<'v>
@@ -125,13 +125,31 @@ impl<'v> InScope<'v> {
         found.copied().unwrap_or(Value::Unit)
     }
 
-    /// The number that a slot holds: of a context, a switch, a reader, a writer or a directory.
-    pub fn number(&self, slot: u32) -> u64
-        ensures { result ≡ number_at self.now slot }
+    /// The number of the context that a slot holds. One that holds none has 0.
+    pub fn context(&self, slot: u32) -> u32
+        ensures { result ≡ held_context self.now slot }
     {
         match self.value(slot) {
-            Value::Ctx(number) => number as u64,
-            Value::Switch(number) => number as u64,
+            Value::Ctx(number) => number,
+            _ => 0,
+        }
+    }
+
+    /// The number of the switch that a slot holds. One that holds none has 0.
+    pub fn switch(&self, slot: u32) -> u32
+        ensures { result ≡ held_switch self.now slot }
+    {
+        match self.value(slot) {
+            Value::Switch(number) => number,
+            _ => 0,
+        }
+    }
+
+    /// The number of the reader, the writer or the directory that a slot holds. One that holds none has 0.
+    pub fn number(&self, slot: u32) -> u64
+        ensures { result ≡ held_number self.now slot }
+    {
+        match self.value(slot) {
             Value::Int(number) if number >= 0 => number as u64,
             _ => 0,
         }

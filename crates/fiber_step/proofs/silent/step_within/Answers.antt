@@ -64,7 +64,7 @@ returns-in_err-times-in-Repeat c =
 
 pub unreachable-requires : goal.unreachable-requires
 unreachable-requires c =
-    silent_only _ (c.requires.silent _ c.node.ensures.node) c.in_default.not-Let c.in_default.not-LetForm c.in_default.not-If c.in_default.not-Give c.in_default.not-Raise c.in_default.not-Repeat
+    silent_only _ (c.requires.kind _ c.node.ensures.node) c.in_default.not-Let c.in_default.not-LetForm c.in_default.not-If c.in_default.not-Give c.in_default.not-Raise c.in_default.not-Repeat
 
 pub returns : goal.returns
 returns c =
