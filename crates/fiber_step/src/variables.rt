@@ -125,7 +125,7 @@ impl<'v> InScope<'v> {
         found.copied().unwrap_or(Value::Unit)
     }
 
-    /// The number of the context that a slot holds. One that holds none has 0.
+    /// The number of the context that a slot holds, and 0 where it holds none.
     pub fn context(&self, slot: u32) -> u32
         ensures { result ≡ held_context self.now slot }
     {
@@ -135,7 +135,7 @@ impl<'v> InScope<'v> {
         }
     }
 
-    /// The number of the switch that a slot holds. One that holds none has 0.
+    /// The number of the switch that a slot holds, and 0 where it holds none.
     pub fn switch(&self, slot: u32) -> u32
         ensures { result ≡ held_switch self.now slot }
     {
@@ -145,7 +145,7 @@ impl<'v> InScope<'v> {
         }
     }
 
-    /// The number of the reader, the writer or the directory that a slot holds. One that holds none has 0.
+    /// The number of the reader, the writer or the directory that a slot holds, and 0 where it holds none.
     pub fn number(&self, slot: u32) -> u64
         ensures { result ≡ held_number self.now slot }
     {
