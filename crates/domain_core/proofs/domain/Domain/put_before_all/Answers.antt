@@ -1,4 +1,4 @@
-use Rattle.std.proofs.Common.{◌≤◌, ◌+◌, ◌-◌, ◌∷◌, suc, ℕ, List, length, ap, ◌∙◌, sym, subst, refl, arith}
+use Rattle.std.proofs.Common.{◌≤◌, ◌+◌, ◌-◌, ◌∷◌, suc, ℕ, List, length, ap, ◌∙◌, sym, subst, arith}
 use Rattle.domain_core.specs.declared.domain.Domain.TheInside.{Inside}
 use Rattle.domain_core.specs.Keeping.{KeptDomain}
 use Rattle.domain_core.proofs.Branching.{before_first, room_for_all}
