@@ -57,12 +57,9 @@ fn awaits_cancel(standing: Option<Standing>) -> bool
     ensures yes { result ≡ true → standing ≡ Some Standing.AwaitsCancel }
     ensures no { result ≡ false → standing ≢ Some Standing.AwaitsCancel }
 {
-    // Apart from `strike`, and no nested pattern, for the proof alone: facts are lost where branches come together.
+    // Apart from `strike` for the proof alone, which uses that the pattern fits, or doesn't, where branches have come together.
     match standing {
-        Some(stands) => match stands {
-            Standing::AwaitsCancel => true,
-            _ => false,
-        },
-        None => false,
+        Some(Standing::AwaitsCancel) => true,
+        _ => false,
     }
 }

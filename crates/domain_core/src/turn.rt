@@ -102,7 +102,7 @@ impl Domain {
         ensures same { OnOk result (SameCounts self.old self.new) }
         ensures texts { OnOk result (texts.new ≡ texts.old) }
     {
-        // A match and no `?`, for the proof alone: facts are lost where branches come together.
+        // A match and no `?`: behind one the kit's prover fails, by a fault of its own.
         match self.next_call(script, texts, fiber) {
             Ok(ask) => self.answer(script, fiber, &ask, told),
             Err(error) => Err(error),
@@ -270,12 +270,9 @@ fn called_again(standing: Standing) -> Option<Again>
     ensures some { IfSome result (λ again. standing ≡ Standing.Ready (Next.CallsAgain again)) }
     ensures none { IfNone result ((again : Again) → standing ≢ Standing.Ready (Next.CallsAgain again)) }
 {
-    // Apart from `next_call`, and no nested pattern, for the proof alone: facts are lost where branches come together.
+    // Apart from `next_call` for the proof alone, which uses that the pattern doesn't fit, where branches have come together.
     match standing {
-        Standing::Ready(next) => match next {
-            Next::CallsAgain(again) => Some(again),
-            _ => None,
-        },
+        Standing::Ready(Next::CallsAgain(again)) => Some(again),
         _ => None,
     }
 }

@@ -1,7 +1,8 @@
 //! The ready list: the fibers that can move, the one that moves next first.
 //!
 //! A ring whose capacity is the most that may stand in it, so that a push fails exactly where the list is full; a caller that
-//! knows that there is room has a push without an error. Each call takes constant time. The theorems are the clauses of the methods of [`Ready`], by `spec_parts`'s `ReadyList`.
+//! knows that there is room has a push without an error. Each call takes constant time. The theorems are the clauses of the methods of
+//! [`Ready`], by `spec_parts`'s `ReadyList`.
 
 ghost use Rattle.std.specs.Prelude.{◌≡◌, ◌↔◌, ◌<◌, [], length, IsErr, IsTrue, IfOk, OnOk, OnErr};
 ghost use Rattle.spec_parts.specs.ReadyList as list;
