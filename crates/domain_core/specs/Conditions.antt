@@ -129,7 +129,7 @@ pub record CanCall (kept : KeptDomain) (g : ℕ) : Type 0 where
   pub few_groups : length kept.groups < 2 ^ 32 - 1
   pub few_fibers : length kept.fibers < 2 ^ 32 - 1025
 
--- what a fiber needs that may go into a block in a new context, which a failure before that leaves as it is
+-- what a fiber needs that goes into a block in a new context. A failure that is given to a switch before that leaves it all of this
 pub record CanEnter (nodes : List Node) (kept : KeptDomain) (g : ℕ) : Type 0 where
   pub awake : IsAwake kept g
   pub live : RunsInLive kept g

@@ -87,7 +87,7 @@ impl Domain {
         told: &mut Told,
     ) -> Result<(), NoMemory>
         requires can { CanCall self.old fiber }
-        requires ends { MayEndContext self.old context }
+        requires may { MayEndContext self.old context }
         ensures answers { OnOk result ((script : Read) → Answers script (Ask.Leave context late outcome) fiber self.old told.new self.new) }
         ensures same { OnOk result (SameCounts self.old self.new) }
     {
