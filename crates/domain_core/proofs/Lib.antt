@@ -6,6 +6,7 @@ pub mod Preparing
 pub mod MeetingScopes
 pub mod MeetingCounts
 pub mod Meeting
+pub mod Calling
 pub mod Coming
 pub mod Mirroring
 pub mod ByNumber

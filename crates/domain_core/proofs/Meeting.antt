@@ -1,5 +1,6 @@
 -- What is asked for the next call of a fiber is met, in the words of what is kept, where a domain that stands well has come to that call.
 use Rattle.std.proofs.Common.{◌≡◌, ℕ, ◌<◌, true, false, List, [], ◌∷◌, length, refl, ap, subst, arith}
+use Rattle.domain_core.specs.Conditions.{CanCall}
 use Rattle.domain_core.specs.Keeping.{KeptDomain}
 use Rattle.domain_core.specs.Mirrors.{Mirrors}
 use Rattle.domain_core.specs.Moving.{IsMetBy, MayAnswer}
@@ -12,6 +13,7 @@ use Rattle.law_domain.specs.Kinded.Laws.{WereMade}
 use Rattle.fiber_step.specs.declared.ask.Ask.{Ask}
 use Rattle.fiber_step.specs.declared.ask.Ask.TheVariants as ask
 use Rattle.fiber_step.specs.Standing.{ask_of}
+use Rattle.fiber_step.specs.Stepping.{HasBodiesOf}
 use Rattle.spec_machine.specs.Domain.{DomainState}
 use Rattle.spec_machine.specs.Preparing.{Calls, Prepared, prepared}
 use Rattle.script_forms.specs.Flat.{nodes_of}
@@ -54,11 +56,10 @@ module _ (script : Script) {texts : List (List ℕ)} {l : DomainState} {g : ℕ}
   met (ask.End it) built is made = scopes.may_be_ended at is.1
   met call built is made = absurd built
 
-  answers : (call : Ask) → IsBuiltCall (ask_of (nodes_of script) call) → IsMet l g (ask_of (nodes_of script) call) → WereMade l (ask_of (nodes_of script) call) → MayAnswer script g call kept
-  answers call built is made = record {
+  can_call : CanCall kept g
+  can_call = record {
     awake = counts.awake at;
     live = counts.live at;
-    placed = counts.placed at;
     owes = counts.owes_nothing at;
     room = counts.room at;
     most = counts.most at;
@@ -69,8 +70,11 @@ module _ (script : Script) {texts : List (List ℕ)} {l : DomainState} {g : ℕ}
     few_switches = counts.few_switches at;
     few_groups = counts.few_groups at;
     few_fibers = counts.few_fibers at;
-    met = met call built is made;
   }
+
+  answers : (call : Ask) → IsBuiltCall (ask_of (nodes_of script) call) → IsMet l g (ask_of (nodes_of script) call) → WereMade l (ask_of (nodes_of script) call)
+      → HasBodiesOf (nodes_of script) call → MayAnswer script g call kept
+  answers call built is made bodies = record { can = can_call; placed = counts.placed at; bodies = bodies; met = met call built is made }
 
 same_call : (doing : _) (g : ℕ) (one other : Called) → doing ≡ Calls g one → doing ≡ Calls g other → one ≡ other
 same_call doing g one other here there = cc
@@ -78,8 +82,8 @@ same_call doing g one other here there = cc
 -- the call is the one that the definitions come to
 pub may_answer : (script : Script) (texts : List (List ℕ)) (l : DomainState) (g : ℕ) (others : List ℕ) (kept : KeptDomain) (call : Ask) → IsRunnable script → StandsWell script l
     → l.duties ≡ [] → l.ready ≡ g ∷ others → l.lines < 1000000 → (prepared l).doing ≡ Calls g (ask_of (nodes_of script) call)
-    → Mirrors (nodes_of script) texts kept (prepared l).state → MayAnswer script g call kept
-may_answer script texts l g others kept call runnable well none is few calls mirrors = (
+    → Mirrors (nodes_of script) texts kept (prepared l).state → HasBodiesOf (nodes_of script) call → MayAnswer script g call kept
+may_answer script texts l g others kept call runnable well none is few calls mirrors bodies = (
     let it : CallsWell script l g others = moves_call_well script l g others runnable well none is in
     let at : IsAtCall (nodes_of script) texts l g others kept = record {
       sound = well.sound;
@@ -94,4 +98,5 @@ may_answer script texts l g others kept call runnable well none is few calls mir
     answers script at well call
     (subst IsBuiltCall same it.calls.built)
     (subst (IsMet l g) same it.calls.met)
-    (subst (WereMade l) same it.made))
+    (subst (WereMade l) same it.made)
+    bodies)

@@ -3,6 +3,7 @@ use Rattle.std.proofs.Common.{◌≡◌, ℕ, ◌<◌, false, List, [], refl, ap
 use Rattle.eio_value.specs.declared.raised.Outcome.{Outcome}
 use Rattle.fiber_step.specs.declared.ask.Ask.{Ask}
 use Rattle.fiber_step.specs.Standing.{ask_of}
+use Rattle.fiber_step.specs.Stepping.{HasBodiesOf}
 use Rattle.script_forms.specs.Flat.{nodes_of}
 use Rattle.spec_script.specs.Scripts.{Script}
 use Rattle.spec_script.specs.Syntax.{Plain, Daemon}
@@ -63,8 +64,8 @@ module _ (script : Script) (runnable : IsRunnable script) (texts new_texts : Lis
   few_lines : l.lines < 1000000
   few_lines = omega (arith, few, stands.mirrors.lines)
 
-  pub calls : MayAnswer script g call kept
-  calls =
+  pub may : HasBodiesOf (nodes_of script) call → MayAnswer script g call kept
+  may =
       may_answer script new_texts l g old.ready kept call runnable (well script runnable texts old g owes going l stands) (stands.mirrors.duties ∙ owes) stands.mirrors.ready
       few_lines comes.calls comes.mirrors
 

@@ -1,5 +1,5 @@
 -- What the methods of a domain ask, in the words of what is kept.
-use Rattle.std.specs.Prelude.{◌≡◌, ◌≢◌, ℕ, ◌+◌, ◌<◌, ◌≤◌, ◌⊎◌, Bool, true, false, is_some, [], length, Option, Some}
+use Rattle.std.specs.Prelude.{◌≡◌, ◌≢◌, ℕ, ◌+◌, ◌-◌, ◌^◌, ◌<◌, ◌≤◌, ◌⊎◌, Bool, true, false, is_some, List, [], length, count_by, Option, Some}
 use Rattle.std.specs.List.{Contains}
 use Rattle.fiber_step.specs.Numbering.Beginnings.{BeginsBlock}
 use Rattle.cancel_tree.specs.Endings.{HasNoLiveChild}
@@ -13,11 +13,13 @@ use Rattle.spec_machine.specs.Steps.{can_be_cancelled}
 use Rattle.spec_parts.specs.Contexts.{is_live}
 use Rattle.spec_parts.specs.Groups.{group_at}
 use Rattle.spec_parts.specs.Switches.{Handler, switch_at}
+use Rattle.script_forms.specs.declared.node.Node.{Node}
 use Rattle.spec_script.specs.Scripts.{Script}
 use Rattle.spec_fiber.specs.Asks.{Ask}
 use Rattle.switch_core.specs.Attaching.{IsAttached}
 use Rattle.domain_core.specs.Answering.{SameFibers}
 use Rattle.domain_core.specs.Keeping.{KeptFiber, KeptDomain, kept_at}
+use Rattle.domain_core.specs.Stepping.{IsPlacedAt}
 
 -- ## Fibers
 
@@ -109,6 +111,31 @@ pub record KeptMayJoin (kept : KeptDomain) (group : ℕ) (own : Option Outcome) 
   pub made : group < length kept.groups
   pub some_left : own_branches (is_some own) ≤ (group_at kept.groups group).left
   pub ends : (group_at kept.groups group).left ≡ own_branches (is_some own) → MayEndContext kept (group_at kept.groups group).context
+
+-- ## Calls
+
+-- what holds at the time of each call of a fiber, whichever call it is: the fiber has left the ready list, and the domain owes no strike
+pub record CanCall (kept : KeptDomain) (g : ℕ) : Type 0 where
+  pub awake : IsAwake kept g
+  pub live : RunsInLive kept g
+  pub owes : kept.owed ≡ []
+  pub room : length kept.ready + 1 ≤ count_by is_some kept.fibers
+  pub most : count_by is_some kept.fibers ≤ 1024
+  pub parked : HasRoomForParked kept
+  pub contexts : HasLiveContexts kept
+  pub apart : IsAttachedToNone kept (length kept.fibers)
+  pub few_contexts : length kept.contexts.made < 2 ^ 32 - 1
+  pub few_switches : length kept.switches < 2 ^ 32 - 1
+  pub few_groups : length kept.groups < 2 ^ 32 - 1
+  pub few_fibers : length kept.fibers < 2 ^ 32 - 1025
+
+-- what a fiber needs that goes into a block in a new context. A failure that is given to a switch before that leaves it all of this
+pub record CanEnter (nodes : List Node) (kept : KeptDomain) (g : ℕ) : Type 0 where
+  pub awake : IsAwake kept g
+  pub live : RunsInLive kept g
+  pub room : length kept.ready < 1024
+  pub placed : IsPlacedAt nodes g kept.fibers
+  pub few : length kept.contexts.made < 2 ^ 32 - 1
 
 -- ## Strikes
 

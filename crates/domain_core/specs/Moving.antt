@@ -1,11 +1,12 @@
 -- How the fiber that stands first in the ready list moves: its next call, and what is there once that was made.
-use Rattle.std.specs.Prelude.{◌≡◌, ◌≢◌, ℕ, ◌+◌, ◌-◌, ◌^◌, ◌<◌, ◌≤◌, Bool, false, List, [], ◌∷◌, ◌++◌, length, count_by, is_some, Some}
+use Rattle.std.specs.Prelude.{◌≡◌, ◌≢◌, ℕ, ◌^◌, ◌<◌, Bool, false, List, ◌∷◌, ◌++◌, length, Some}
 use Rattle.cancel_tree.specs.Waits.{waits}
 use Rattle.eio_value.specs.declared.plain.Member.{Member}
 use Rattle.eio_value.specs.declared.raised.Outcome.{Outcome}
 use Rattle.fiber_step.specs.declared.ask.Ask.{Ask}
 use Rattle.fiber_step.specs.declared.ask.Ask.TheVariants as ask
 use Rattle.fiber_step.specs.Standing.{ask_of}
+use Rattle.fiber_step.specs.Stepping.{HasBodiesOf}
 use Rattle.script_forms.specs.Flat.{nodes_of}
 use Rattle.spec_script.specs.Scripts.{Script}
 use Rattle.spec_fiber.specs.Asks.{Ask as Called}
@@ -19,7 +20,7 @@ use Rattle.spec_machine.specs.Moves.{asks, own_move}
 use Rattle.spec_machine.specs.Preparing.{Calls, next_call, next_of, prepared}
 use Rattle.domain_core.specs.declared.told.Told.{Told}
 use Rattle.domain_core.specs.Answering.{HoldsOf, Tells, forking_by}
-use Rattle.domain_core.specs.Conditions.{HandlersBegin, HasLiveContexts, HasRoomForParked, IsAttachedToNone, IsAwake, KeptMayClose, MayEnd, MayEndContext, KeptMayJoin, RunsInLive}
+use Rattle.domain_core.specs.Conditions.{CanCall, HandlersBegin, KeptMayClose, MayEnd, MayEndContext, KeptMayJoin}
 use Rattle.domain_core.specs.Keeping.{KeptDomain, KeptFiber, kept_at}
 use Rattle.domain_core.specs.Mirrors.{Mirrors}
 use Rattle.domain_core.specs.Stepping.{IsPlacedAt}
@@ -92,19 +93,9 @@ IsMetBy script g (ask.Join group own) kept = KeptMayJoin kept group own
 IsMetBy script g (ask.End it) kept = MayEnd kept g
 IsMetBy script g call kept = ⊥
 
--- and for any
+-- what a fiber may rely on at this call, and hands on to it
 pub record MayAnswer (script : Script) (g : ℕ) (call : Ask) (kept : KeptDomain) : Type 0 where
-  pub awake : IsAwake kept g
-  pub live : RunsInLive kept g
+  pub can : CanCall kept g
   pub placed : IsPlacedAt (nodes_of script) g kept.fibers
-  pub owes : kept.owed ≡ []
-  pub room : length kept.ready + 1 ≤ count_by is_some kept.fibers
-  pub most : count_by is_some kept.fibers ≤ 1024
-  pub parked : HasRoomForParked kept
-  pub contexts : HasLiveContexts kept
-  pub apart : IsAttachedToNone kept (length kept.fibers)
-  pub few_contexts : length kept.contexts.made < 2 ^ 32 - 1
-  pub few_switches : length kept.switches < 2 ^ 32 - 1
-  pub few_groups : length kept.groups < 2 ^ 32 - 1
-  pub few_fibers : length kept.fibers < 2 ^ 32 - 1025
+  pub bodies : HasBodiesOf (nodes_of script) call
   pub met : IsMetBy script g call kept

@@ -1,7 +1,7 @@
 //! `close`, which a fiber calls at the end of a switch's block, and again whenever it was woken there: until nobody is attached to the
 //! switch and no handler is left.
 
-ghost use Rattle.std.specs.Prelude.{◌≡◌, ◌<◌, ◌-◌, ◌^◌, [], length, Contains, OnOk};
+ghost use Rattle.std.specs.Prelude.{Contains, OnOk};
 ghost use Rattle.fiber_step.specs.Numbering.Beginnings.{BeginsBlock};
 ghost use Rattle.law_domain.specs.Kinded.KindedStates.{handlers_of};
 ghost use Rattle.eio_value.specs.declared.raised.Outcome.TheVariants as outcome;
@@ -11,8 +11,8 @@ ghost use Rattle.script_forms.specs.Flat.{nodes_of};
 ghost use Rattle.spec_fiber.specs.Asks as asks;
 ghost use Rattle.domain_strikes.specs.Owing.{StrikesAtOnce};
 ghost use Rattle.domain_core.specs.Answering.{Answers, MakesUnder, SameCounts, closes_on};
-ghost use Rattle.domain_core.specs.Conditions.{HandlersBegin, IsAwake, KeptMayClose, RunsInLive};
-ghost use Rattle.domain_core.specs.Stepping.{IsPlacedAt};
+ghost use Rattle.domain_core.specs.Conditions.{CanEnter, HandlersBegin, KeptMayClose};
+ghost use Rattle.domain_core.specs.Moving.{MayAnswer};
 
 use crate::domain::Domain;
 use crate::standing::{Again, Next};
@@ -39,14 +39,7 @@ impl Domain {
         kept: Value,
         told: &mut Told,
     ) -> Result<(), NoMemory>
-        requires awake { IsAwake self.old fiber }
-        requires room { length self.old.ready < 1024 }
-        requires live { RunsInLive self.old fiber }
-        requires owes { self.old.owed ≡ [] }
-        requires may { KeptMayClose self.old switch }
-        requires handlers { HandlersBegin script.now self.old switch }
-        requires placed { IsPlacedAt (nodes_of script.now) fiber self.old.fibers }
-        requires few { length self.old.contexts.made < 2 ^ 32 - 1 }
+        requires may { MayAnswer script.now fiber (Ask.Close switch failed kept) self.old }
         ensures answers { OnOk result (Answers script.now (Ask.Close switch failed kept) fiber self.old told.new self.new) }
         ensures same { OnOk result (SameCounts self.old self.new) }
     {
@@ -67,14 +60,10 @@ impl Domain {
         kept: Value,
         told: &mut Told,
     ) -> Result<(), NoMemory>
-        requires awake { IsAwake self.old fiber }
-        requires room { length self.old.ready < 1024 }
-        requires live { RunsInLive self.old fiber }
+        requires enters { CanEnter (nodes_of script.now) self.old fiber }
         requires once { StrikesAtOnce self.old.owed self.old.contexts (switch_at self.old.switches switch).context }
         requires may { KeptMayClose self.old switch }
         requires handlers { HandlersBegin script.now self.old switch }
-        requires placed { IsPlacedAt (nodes_of script.now) fiber self.old.fibers }
-        requires few { length self.old.contexts.made < 2 ^ 32 - 1 }
         ensures makes { OnOk result (MakesUnder (nodes_of script.now) (closes_on script.now switch kept fiber) self.old told.new self.new) }
         ensures same { OnOk result (SameCounts self.old self.new) }
     {
@@ -115,12 +104,8 @@ impl Domain {
         handler: Handler,
         told: &mut Told,
     ) -> Result<(), NoMemory>
-        requires awake { IsAwake self.old fiber }
-        requires room { length self.old.ready < 1024 }
-        requires live { RunsInLive self.old fiber }
+        requires enters { CanEnter (nodes_of script.now) self.old fiber }
         requires handler { BeginsBlock script.now handler.block }
-        requires placed { IsPlacedAt (nodes_of script.now) fiber self.old.fibers }
-        requires few { length self.old.contexts.made < 2 ^ 32 - 1 }
         ensures makes { OnOk result (MakesUnder (nodes_of script.now) (runs script.now (asks.Close switch None kept) switch handler fiber) self.old told.new self.new) }
         ensures same { OnOk result (SameCounts self.old self.new) }
     {

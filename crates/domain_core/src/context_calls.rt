@@ -1,12 +1,10 @@
 //! The calls on contexts: the blocks of `sub` and `protect`, their ends, and `cancel`.
 
-ghost use Rattle.std.specs.Prelude.{◌≡◌, ◌<◌, ◌-◌, ◌^◌, [], length, OnOk};
-ghost use Rattle.fiber_step.specs.Having.{HasStatements};
-ghost use Rattle.script_forms.specs.Flat.{nodes_of};
+ghost use Rattle.std.specs.Prelude.{◌<◌, ◌^◌, OnOk};
 ghost use Rattle.spec_script.specs.Scripts.{Script as Read};
 ghost use Rattle.domain_core.specs.Answering.{Answers, SameCounts};
-ghost use Rattle.domain_core.specs.Conditions.{IsAwake, MayEndContext, RunsInLive};
-ghost use Rattle.domain_core.specs.Stepping.{IsPlacedAt};
+ghost use Rattle.domain_core.specs.Conditions.{CanCall, MayEndContext};
+ghost use Rattle.domain_core.specs.Moving.{MayAnswer};
 
 use crate::domain::Domain;
 use crate::standing::Next;
@@ -28,12 +26,7 @@ impl Domain {
         body: u32,
         told: &mut Told,
     ) -> Result<(), NoMemory>
-        requires awake { IsAwake self.old fiber }
-        requires room { length self.old.ready < 1024 }
-        requires live { RunsInLive self.old fiber }
-        requires body { HasStatements (nodes_of script.now) body }
-        requires placed { IsPlacedAt (nodes_of script.now) fiber self.old.fibers }
-        requires few { length self.old.contexts.made < 2 ^ 32 - 1 }
+        requires may { MayAnswer script.now fiber (Ask.Sub body) self.old }
         ensures answers { OnOk result (Answers script.now (Ask.Sub body) fiber self.old told.new self.new) }
         ensures same { OnOk result (SameCounts self.old self.new) }
     {
@@ -64,12 +57,7 @@ impl Domain {
         body: u32,
         told: &mut Told,
     ) -> Result<(), NoMemory>
-        requires awake { IsAwake self.old fiber }
-        requires room { length self.old.ready < 1024 }
-        requires live { RunsInLive self.old fiber }
-        requires body { HasStatements (nodes_of script.now) body }
-        requires placed { IsPlacedAt (nodes_of script.now) fiber self.old.fibers }
-        requires few { length self.old.contexts.made < 2 ^ 32 - 1 }
+        requires may { MayAnswer script.now fiber (Ask.Protect body) self.old }
         ensures answers { OnOk result (Answers script.now (Ask.Protect body) fiber self.old told.new self.new) }
         ensures same { OnOk result (SameCounts self.old self.new) }
     {
@@ -98,8 +86,7 @@ impl Domain {
         outcome: Outcome,
         told: &mut Told,
     ) -> Result<(), NoMemory>
-        requires awake { IsAwake self.old fiber }
-        requires room { length self.old.ready < 1024 }
+        requires can { CanCall self.old fiber }
         requires may { MayEndContext self.old context }
         ensures answers { OnOk result ((script : Read) → Answers script (Ask.Leave context late outcome) fiber self.old told.new self.new) }
         ensures same { OnOk result (SameCounts self.old self.new) }
@@ -134,10 +121,8 @@ impl Domain {
         text: TextId,
         told: &mut Told,
     ) -> Result<(), NoMemory>
-        requires awake { IsAwake self.old fiber }
-        requires room { length self.old.ready < 1024 }
+        requires can { CanCall self.old fiber }
         requires number { context < 2 ^ 32 }
-        requires owes { self.old.owed ≡ [] }
         ensures answers { OnOk result ((script : Read) → Answers script (Ask.Cancel context text) fiber self.old told.new self.new) }
         ensures same { OnOk result (SameCounts self.old self.new) }
     {

@@ -7,7 +7,7 @@ ghost use Rattle.spec_parts.specs.Switches.{switch_at};
 ghost use Rattle.spec_script.specs.Scripts.{Script as Read};
 ghost use Rattle.switch_core.specs.Attaching.{IsAttached};
 ghost use Rattle.domain_core.specs.Answering.{Answers, Becomes, SameCounts};
-ghost use Rattle.domain_core.specs.Conditions.{IsAwake, LeavesScopes, MayEnd};
+ghost use Rattle.domain_core.specs.Conditions.{CanCall, LeavesScopes, MayEnd};
 
 use crate::domain::Domain;
 use crate::standing::Role;
@@ -20,9 +20,7 @@ impl Domain {
     /// The end of a fiber. That of the body ends its context; a fiber of a switch leaves that, which gets what it raised; and a branch leaves its
     /// group.
     pub(crate) fn end(&mut self, fiber: u32, outcome: &Outcome, told: &mut Told)
-        requires awake { IsAwake self.old fiber }
-        requires room { length self.old.ready < 1024 }
-        requires owes { self.old.owed ≡ [] }
+        requires can { CanCall self.old fiber }
         requires may { MayEnd self.old fiber }
         ensures answers { (script : Read) → Answers script (Ask.End outcome.now) fiber self.old told.new self.new }
         ensures same { SameCounts self.old self.new }

@@ -3,9 +3,7 @@
 ghost use Rattle.std.specs.Prelude.{◌≡◌, ◌<◌, ◌+◌, ◌-◌, ◌≤◌, ◌^◌, ◌++◌, ◌∷◌, ℕ, List, [], Some, length, count_by, is_some, IfOk, OnOk};
 ghost use Rattle.std.specs.List.{AllByRecursion as Each};
 ghost use Rattle.law_domain.specs.Sound.SoundStates.{own_branches};
-ghost use Rattle.fiber_step.specs.Entering.{HasBranches};
 ghost use Rattle.fiber_step.specs.Having.{HasStatements};
-ghost use Rattle.fiber_step.specs.Stepping.{HasBranchBodies};
 ghost use Rattle.group_core.specs.Kinds.{kind_of as kind_in};
 ghost use Rattle.spec_machine.specs.Domain.{OfGroup, fiber_at, made};
 ghost use Rattle.spec_machine.specs.GroupMoves as groups;
@@ -18,8 +16,9 @@ ghost use Rattle.script_forms.specs.declared.node.Node.{Node as Begun};
 ghost use Rattle.spec_script.specs.Scripts.{Script as Read};
 ghost use Rattle.spec_fiber.specs.Replies.{begun};
 ghost use Rattle.domain_core.specs.Answering.{Answers, Becomes, BecomesUnder, SameCounts, SameFibers, gathers, heads_with};
-ghost use Rattle.domain_core.specs.Conditions.{HasRoomForParked, IsAwake, LeavesGroups, MayEndContext, KeptMayJoin, RunsInLive};
+ghost use Rattle.domain_core.specs.Conditions.{CanCall, IsAwake, LeavesGroups, MayEndContext, KeptMayJoin};
 ghost use Rattle.domain_core.specs.Keeping.{KeptFiber};
+ghost use Rattle.domain_core.specs.Moving.{MayAnswer};
 ghost use Rattle.domain_core.specs.Stepping.{IsPlacedAt};
 
 use crate::domain::Domain;
@@ -47,16 +46,7 @@ impl Domain {
         form: u32,
         told: &mut Told,
     ) -> Result<(), NoMemory>
-        requires awake { IsAwake self.old fiber }
-        requires room { length self.old.ready + 1 ≤ count_by is_some self.old.fibers }
-        requires most { count_by is_some self.old.fibers ≤ 1024 }
-        requires live { RunsInLive self.old fiber }
-        requires some { HasBranches (nodes_of script.now) form }
-        requires begin { HasBranchBodies (nodes_of script.now) form }
-        requires placed { IsPlacedAt (nodes_of script.now) fiber self.old.fibers }
-        requires few { length self.old.contexts.made < 2 ^ 32 - 1 }
-        requires few_groups { length self.old.groups < 2 ^ 32 - 1 }
-        requires few_fibers { length self.old.fibers < 2 ^ 32 - 1025 }
+        requires may { MayAnswer script.now fiber (Ask.Branches group form) self.old }
         ensures answers { OnOk result (Answers script.now (Ask.Branches group form) fiber self.old told.new self.new) }
         ensures same { OnOk result (SameCounts self.old self.new) }
     {
@@ -214,10 +204,7 @@ impl Domain {
         own: Option<Outcome>,
         told: &mut Told,
     ) -> Result<(), NoMemory>
-        requires awake { IsAwake self.old fiber }
-        requires room { length self.old.ready < 1024 }
-        requires parked { HasRoomForParked self.old }
-        requires owes { self.old.owed ≡ [] }
+        requires can { CanCall self.old fiber }
         requires may { KeptMayJoin self.old group own }
         ensures answers { OnOk result ((script : Read) → Answers script (Ask.Join group own) fiber self.old told.new self.new) }
         ensures same { OnOk result (SameCounts self.old self.new) }

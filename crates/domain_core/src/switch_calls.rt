@@ -9,8 +9,8 @@ ghost use Rattle.script_forms.specs.Flat.{nodes_of};
 ghost use Rattle.script_forms.specs.declared.node.Node.{Node as Begun};
 ghost use Rattle.spec_script.specs.Scripts.{Script as Read};
 ghost use Rattle.domain_core.specs.Answering.{Answers, Becomes, BecomesUnder, SameCounts, SameFibers, forking_by, forks, registers};
-ghost use Rattle.domain_core.specs.Conditions.{HasLiveContexts, IsAttachedToNone, IsAwake, RunsInLive};
-ghost use Rattle.domain_core.specs.Stepping.{IsPlacedAt};
+ghost use Rattle.domain_core.specs.Conditions.{CanCall, HasLiveContexts, IsAwake};
+ghost use Rattle.domain_core.specs.Moving.{MayAnswer};
 
 use crate::domain::Domain;
 use crate::fibers::MOST_FIBERS;
@@ -35,13 +35,7 @@ impl Domain {
         body: u32,
         told: &mut Told,
     ) -> Result<(), NoMemory>
-        requires awake { IsAwake self.old fiber }
-        requires room { length self.old.ready < 1024 }
-        requires live { RunsInLive self.old fiber }
-        requires body { HasStatements (nodes_of script.now) body }
-        requires placed { IsPlacedAt (nodes_of script.now) fiber self.old.fibers }
-        requires few { length self.old.contexts.made < 2 ^ 32 - 1 }
-        requires few_switches { length self.old.switches < 2 ^ 32 - 1 }
+        requires may { MayAnswer script.now fiber (Ask.Switch body) self.old }
         ensures answers { OnOk result (Answers script.now (Ask.Switch body) fiber self.old told.new self.new) }
         ensures same { OnOk result (SameCounts self.old self.new) }
     {
@@ -88,14 +82,8 @@ impl Domain {
         body: u32,
         told: &mut Told,
     ) -> Result<(), NoMemory>
-        requires awake { IsAwake self.old fiber }
-        requires room { length self.old.ready + 1 ≤ count_by is_some self.old.fibers }
-        requires most { count_by is_some self.old.fibers ≤ 1024 }
+        requires can { CanCall self.old fiber }
         requires opened { switch < length self.old.switches }
-        requires contexts { HasLiveContexts self.old }
-        requires few_switches { length self.old.switches ≤ 2 ^ 32 }
-        requires few { length self.old.fibers < 2 ^ 32 - 1 }
-        requires apart { IsAttachedToNone self.old (length self.old.fibers) }
         ensures answers { OnOk result ((script : Read) → HasStatements (nodes_of script) body → Answers script (Ask.Fork (forking_by daemon) switch body) fiber self.old told.new self.new) }
         ensures same { OnOk result (SameCounts self.old self.new) }
     {
@@ -130,12 +118,10 @@ impl Domain {
 
     /// A new fiber of this switch, with the variables of the caller; it stands in no list yet.
     fn make(&mut self, maker: u32, daemon: bool, switch: u32, body: u32) -> Result<u32, NoMemory>
-        requires awake { IsAwake self.old maker }
+        requires can { CanCall self.old maker }
         requires room { count_by is_some self.old.fibers < 1024 }
-        requires few { length self.old.fibers < 2 ^ 32 - 1 }
         requires opened { switch < length self.old.switches }
         requires takes { refuses_fibers (switch_at self.old.switches switch) ≡ false }
-        requires apart { IsAttachedToNone self.old (length self.old.fibers) }
         ensures number { IfOk result (λ new. new ≡ length self.old.fibers) }
         ensures awake { OnOk result ((g : ℕ) → IsAwake self.old g → IsAwake self.new g) }
         ensures new { IfOk result (λ new. IsAwake self.new new) }
@@ -165,11 +151,8 @@ impl Domain {
         text: TextId,
         told: &mut Told,
     ) -> Result<(), NoMemory>
-        requires awake { IsAwake self.old fiber }
-        requires room { length self.old.ready < 1024 }
+        requires can { CanCall self.old fiber }
         requires opened { switch < length self.old.switches }
-        requires few_switches { length self.old.switches ≤ 2 ^ 32 }
-        requires owes { self.old.owed ≡ [] }
         ensures answers { OnOk result ((script : Read) → Answers script (Ask.Fail switch text) fiber self.old told.new self.new) }
         ensures same { OnOk result (SameCounts self.old self.new) }
     {
@@ -196,14 +179,7 @@ impl Domain {
         handler: u32,
         told: &mut Told,
     ) -> Result<(), NoMemory>
-        requires awake { IsAwake self.old fiber }
-        requires room { length self.old.ready < 1024 }
-        requires live { RunsInLive self.old fiber }
-        requires opened { switch < length self.old.switches }
-        requires few_switches { length self.old.switches ≤ 2 ^ 32 }
-        requires handler { HasStatements (nodes_of script.now) handler }
-        requires placed { IsPlacedAt (nodes_of script.now) fiber self.old.fibers }
-        requires few { length self.old.contexts.made < 2 ^ 32 - 1 }
+        requires may { MayAnswer script.now fiber (Ask.OnRelease switch handler) self.old }
         ensures answers { OnOk result (Answers script.now (Ask.OnRelease switch handler) fiber self.old told.new self.new) }
         ensures same { OnOk result (SameCounts self.old self.new) }
     {

@@ -117,8 +117,7 @@ impl Domain {
         ask: &Ask,
         told: &mut Told,
     ) -> Result<(), NoMemory>
-        requires calls { MayAnswer script.now fiber ask.now self.old }
-        requires bodies { HasBodiesOf (nodes_of script.now) ask.now }
+        requires may { MayAnswer script.now fiber ask.now self.old }
         ensures answers { OnOk result (Answers script.now ask.now fiber self.old told.new self.new) }
         ensures same { OnOk result (SameCounts self.old self.new) }
     {
@@ -156,9 +155,8 @@ impl Domain {
         ask: &Ask,
         told: &mut Told,
     ) -> Result<(), NoMemory>
-        requires calls { MayAnswer script.now fiber ask.now self.old }
+        requires may { MayAnswer script.now fiber ask.now self.old }
         requires scope { IsOfScope ask.now }
-        requires bodies { HasBodiesOf (nodes_of script.now) ask.now }
         ensures answers { OnOk result (Answers script.now ask.now fiber self.old told.new self.new) }
         ensures same { OnOk result (SameCounts self.old self.new) }
     {

@@ -18,7 +18,7 @@ returns-then-is_some-clause-answers c script =
     (c.go_off.ensures.makes (nodes_of script))
 
 pub wait-requires-clause-live : goal.wait-requires-clause-live
-wait-requires-clause-live c = subst (λ kept. RunsInLive kept c.args.fiber) (sym c.self.view_is) c.requires.live _ c.at.ensures.1
+wait-requires-clause-live c = subst (λ kept. RunsInLive kept c.args.fiber) (sym c.self.view_is) c.requires.can.live _ c.at.ensures.1
 
 pub returns-clause-answers : goal.returns-clause-answers
 unfolding own_call
@@ -26,6 +26,6 @@ returns-clause-answers c script =
     makes_as (nodes_of script) _ (waits did.AwaitCancel ForCancel c.args.fiber) _ _ _
     (λ texts l mirrors. on_waits did.AwaitCancel ForCancel c.args.fiber l c.off_for.result (sym c.is_some.ensures ∙ c.if-is_some.false) (c.off_for.ensures (nodes_of script) texts l mirrors))
     (makes_told (nodes_of script) (stands (Parked ForCancel) c.args.fiber) c.args.fiber did.AwaitCancel said.Waits _ _
-    (awaits_becomes _ c.args.self.now c.self.view_is c.args.fiber c.requires.awake _ c.at.ensures.1
-    (subst (λ kept. RunsInLive kept c.args.fiber) (sym c.self.view_is) c.requires.live _ c.at.ensures.1)
+    (awaits_becomes _ c.args.self.now c.self.view_is c.args.fiber c.requires.can.awake _ c.at.ensures.1
+    (subst (λ kept. RunsInLive kept c.args.fiber) (sym c.self.view_is) c.requires.can.live _ c.at.ensures.1)
     c.wait.new.self c.stand.new.self c.wait.ensures c.stand.ensures (nodes_of script)))

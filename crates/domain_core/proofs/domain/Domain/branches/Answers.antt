@@ -54,7 +54,7 @@ returns-in_default-new_sub-clause-answers c = (
 pub enter-requires-clause-placed : goal.enter-requires-clause-placed
 enter-requires-clause-placed c = (
     let nodes : List Node = nodes_of c.args.script.now in
-    c.in_ok-number.ensures.placed nodes (subst (λ fibers. IsPlacedAt nodes c.args.fiber fibers) (sym c.in-Some-new_sub.ensures.fibers.fibers) c.requires.placed))
+    c.in_ok-number.ensures.placed nodes (subst (λ fibers. IsPlacedAt nodes c.args.fiber fibers) (sym c.in-Some-new_sub.ensures.fibers.fibers) c.requires.may.placed))
 
 pub returns-clause-answers : goal.returns-clause-answers
 returns-clause-answers c = (

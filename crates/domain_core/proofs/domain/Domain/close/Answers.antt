@@ -1,6 +1,7 @@
-use Rattle.std.proofs.Common.{◌≡◌, ◌∙◌, ◌⊎◌, inl, inr, false, sym, subst}
+use Rattle.std.proofs.Common.{◌≡◌, ◌∙◌, ◌⊎◌, inl, inr, false, List, sym, subst}
 use Rattle.std.proofs.lemmas.Result.{on_ok_weaker}
 use Rattle.script_forms.specs.Flat.{nodes_of}
+use Rattle.script_forms.specs.declared.node.Node.{Node}
 use Rattle.spec_fiber.specs.Asks as asks
 use Rattle.spec_parts.specs.Contexts.{is_full}
 use Rattle.spec_parts.specs.Switches.{runs_handler, switch_at}
@@ -11,6 +12,7 @@ use Rattle.domain_core.specs.contracts.domain.Domain.{the_view}
 use Rattle.domain_core.specs.Answering.{MakesUnder, closes_on}
 use Rattle.domain_core.specs.Keeping.{KeptDomain}
 use Rattle.domain_core.specs.Mirrors.{Mirrors}
+use Rattle.domain_core.proofs.Calling.{can_enter, enters_still}
 use Rattle.domain_core.proofs.Composing.{makes_as, makes_after}
 use Rattle.domain_core.proofs.Closes.{closes_full, closes_with_room, runs_alike, full_alike, has_room, strikes_still, handlers_still, closes_still}
 use Rattle.domain_core.proofs.domain.Domain.close.Goals as goal
@@ -26,14 +28,20 @@ returns-then-is_full-clause-answers c =
     (c.if-is_full.ensures ∙ full_alike (nodes_of c.args.script.now) texts (the_view c.self.inside) l here)))
     (c.halt.ensures.makes (nodes_of c.args.script.now))
 
+pub close_on-requires-clause-enters : goal.close_on-requires-clause-enters
+close_on-requires-clause-enters c = (
+    let nodes : List Node = nodes_of c.args.script.now in
+    enters_still nodes c.args.self.now c.fails_with.new.self c.fails_with.ensures.leaves c.args.fiber
+    (can_enter nodes c.args.self.now c.args.fiber c.requires.may.can c.requires.may.placed))
+
 pub close_on-requires-clause-once : goal.close_on-requires-clause-once
 close_on-requires-clause-once c = strikes_still c.args.self.now c.fails_with.new.self c.fails_with.ensures.leaves c.args.switch c.fails_with.ensures.once
 
 pub close_on-requires-clause-may : goal.close_on-requires-clause-may
-close_on-requires-clause-may c = closes_still c.args.self.now c.fails_with.new.self c.fails_with.ensures.leaves c.args.switch c.requires.may
+close_on-requires-clause-may c = closes_still c.args.self.now c.fails_with.new.self c.fails_with.ensures.leaves c.args.switch c.requires.may.met.0
 
 pub close_on-requires-clause-handlers : goal.close_on-requires-clause-handlers
-close_on-requires-clause-handlers c = handlers_still c.args.self.now c.fails_with.new.self c.fails_with.ensures.leaves c.args.switch c.args.script.now c.requires.handlers
+close_on-requires-clause-handlers c = handlers_still c.args.self.now c.fails_with.new.self c.fails_with.ensures.leaves c.args.switch c.args.script.now c.requires.may.met.1
 
 pub returns-clause-answers : goal.returns-clause-answers
 returns-clause-answers c = (

@@ -22,7 +22,7 @@ use Rattle.domain_core.proofs.domain.Domain.end.Goals.{in-Body, in-Switched, in-
 pub returns-clause-answers : goal.returns-clause-answers
 unfolding own_call
 returns-clause-answers c = λ script. (
-    let awake : IsAwake (the_view c.self.inside) c.args.fiber = awake_inside (the_view c.self.inside) c.args.self.now c.self.view_is c.args.fiber c.requires.awake in
+    let awake : IsAwake (the_view c.self.inside) c.args.fiber = awake_inside (the_view c.self.inside) c.args.self.now c.self.view_is c.args.fiber c.requires.can.awake in
     let may : MayEnd (the_view c.self.inside) c.args.fiber = subst (λ (k : KeptDomain). MayEnd k c.args.fiber) (sym c.self.view_is) c.requires.may in
     let same : fiber_of c.at-ended.ensures.0 c.at-ended.result.now ≡ awake.fiber = same_Some _ _ (sym c.at-ended.ensures.1 ∙ awake.there) in
     let role : awake.fiber.role ≡ role_of c.at-ended.result.now.role = ap (λ (f : KeptFiber). f.role) (sym same) in

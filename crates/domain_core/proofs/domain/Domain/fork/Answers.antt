@@ -13,7 +13,7 @@ use Rattle.domain_core.proofs.domain.Domain.fork.Goals as goal
 pub returns-then-refuses_forks-clause-answers : goal.returns-then-refuses_forks-clause-answers
 returns-then-refuses_forks-clause-answers c script has = (
     let nodes : List Node = nodes_of script in
-    makes_refused script c.args.daemon c.args.switch c.args.fiber nodes c.args.self.now c.requires.contexts _ c.to_head.new.self
+    makes_refused script c.args.daemon c.args.switch c.args.fiber nodes c.args.self.now c.requires.can.contexts _ c.to_head.new.self
     (block_at nodes c.args.body) (sym c.refuses_forks.ensures ∙ c.if-refuses_forks.true)
     (record {
       tells = λ texts l mirrors. record { fiber = refl; did = sym c.did_fork-did.ensures; reply = refl };
@@ -26,7 +26,7 @@ returns-then-live-ge-MOST_FIBERS-clause-answers c script has = (
     let full : 1024 ≤ count_by is_some c.args.self.now.fibers =
     subst (λ (kept : KeptDomain). 1024 ≤ count_by is_some kept.fibers) c.self.view_is
     (subst (λ (n : ℕ). 1024 ≤ n) c.live.ensures c.if-live-ge-MOST_FIBERS.true) in
-    makes_full script c.args.daemon c.args.switch c.args.fiber nodes c.args.self.now c.requires.contexts _ c.halt.new.self
+    makes_full script c.args.daemon c.args.switch c.args.fiber nodes c.args.self.now c.requires.can.contexts _ c.halt.new.self
     (sym c.refuses_forks.ensures ∙ c.if-refuses_forks.false) (block_at nodes c.args.body) full (c.halt.ensures.makes nodes))
 
 pub returns-clause-answers : goal.returns-clause-answers
@@ -38,7 +38,7 @@ returns-clause-answers c script has = (
     let number = ap (λ (kept : KeptDomain). kept.number) c.self-2.view_is
     ∙ (c.to_head-3.ensures.same.number ∙ (c.to_head-2.ensures.same.number ∙ c.in_ok-new.ensures.same.number)) in
     let answered : Did → ℕ → Told = λ it n. record { fiber = c.args.fiber; did = it; reply = said.Fiber n c.in_ok-new.new } in
-    makes_forked script c.args.daemon c.args.switch c.args.fiber nodes c.args.self.now c.requires.contexts _ c.to_head-3.new.self
+    makes_forked script c.args.daemon c.args.switch c.args.fiber nodes c.args.self.now c.requires.can.contexts _ c.to_head-3.new.self
     (sym c.refuses_forks.ensures ∙ c.if-refuses_forks.false) c.args.body c.in_ok-new.new c.in_ok-new.ensures.number room
     (ap₂ answered c.did_fork-did.ensures number)
     (λ texts l mirrors. c.to_head-3.ensures.becomes nodes texts _ (c.to_head-2.ensures.becomes nodes texts _ (c.in_ok-new.ensures.made nodes has texts l mirrors))))

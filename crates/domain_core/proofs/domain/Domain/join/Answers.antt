@@ -12,6 +12,7 @@ use Rattle.domain_core.specs.contracts.domain.Domain.{the_view}
 use Rattle.domain_core.specs.Answering.{BecomesUnder, Makes}
 use Rattle.domain_core.specs.Conditions.{LeavesGroups}
 use Rattle.domain_core.specs.Keeping.{KeptDomain}
+use Rattle.domain_core.proofs.Calling.{room_for_caller}
 use Rattle.domain_core.proofs.Composing.{makes_after}
 use Rattle.domain_core.proofs.Joins.{joins_by, may_leave, room_still}
 use Rattle.domain_core.proofs.domain.Domain.join.Goals as goal
@@ -33,12 +34,12 @@ leave_context-requires-in-Raise-clause-may c =
 pub give-requires-clause-room : goal.give-requires-clause-room
 give-requires-clause-room c =
     subst (λ (xs : List ℕ). length xs < 1024) (sym (c.leave_context.ensures.ready ∙ ap (λ (kept : KeptDomain). kept.ready) c.self.view_is))
-    (room_still c.args.self.now c.own_ends.new.self c.own_ends.ensures.leaves c.requires.parked c.requires.room)
+    (room_still c.args.self.now c.own_ends.new.self c.own_ends.ensures.leaves c.requires.can.parked (room_for_caller c.args.self.now c.args.fiber c.requires.can))
 
 pub raise_again-requires-clause-room : goal.raise_again-requires-clause-room
 raise_again-requires-clause-room c =
     subst (λ (xs : List ℕ). length xs < 1024) (sym (c.leave_context-in-Raise.ensures.ready ∙ ap (λ (kept : KeptDomain). kept.ready) c.self.view_is))
-    (room_still c.args.self.now c.own_ends.new.self c.own_ends.ensures.leaves c.requires.parked c.requires.room)
+    (room_still c.args.self.now c.own_ends.new.self c.own_ends.ensures.leaves c.requires.can.parked (room_for_caller c.args.self.now c.args.fiber c.requires.can))
 
 pub returns-in-Wait-clause-answers : goal.returns-in-Wait-clause-answers
 returns-in-Wait-clause-answers c = λ script.

@@ -10,7 +10,7 @@ use Rattle.domain_core.proofs.domain.Domain.make.Goals as goal
 
 pub attach-requires-clause-apart : goal.attach-requires-clause-apart
 attach-requires-clause-apart c attached =
-    subst (λ kept. IsAttachedToNone kept (length kept.fibers)) (sym c.self.view_is) c.requires.apart c.args.switch
+    subst (λ kept. IsAttachedToNone kept (length kept.fibers)) (sym c.self.view_is) c.requires.can.apart c.args.switch
     (subst (λ m. IsAttached m (switch_at c.self.inside.switches c.args.switch)) c.in_ok-new.ensures.number attached)
 
 pub returns-clause-awake : goal.returns-clause-awake

@@ -1,11 +1,12 @@
 use Rattle.std.proofs.lemmas.Result.{on_ok_weaker}
-use Rattle.domain_core.proofs.Moving.{calls, moves, texts_stay}
+use Rattle.domain_core.proofs.Moving.{may, moves, texts_stay}
 use Rattle.domain_core.proofs.domain.Domain.move_of.Goals as goal
 
-pub answer-requires-clause-calls : goal.answer-requires-clause-calls
-answer-requires-clause-calls c =
-    calls c.args.script.now c.requires.runnable c.args.texts.now _ c.args.self.now c.args.fiber c.requires.owes c.requires.going c.requires.few c.requires.stands.0 c.requires.stands.1
-    _ _ (c.in-Ok.ensures.calls c.requires.stands.0 c.requires.stands.1)
+pub answer-requires : goal.answer-requires
+answer-requires c = record {
+  may = may c.args.script.now c.requires.runnable c.args.texts.now _ c.args.self.now c.args.fiber c.requires.owes c.requires.going c.requires.few c.requires.stands.0
+      c.requires.stands.1 _ _ (c.in-Ok.ensures.calls c.requires.stands.0 c.requires.stands.1) c.in-Ok.ensures.bodies;
+}
 
 pub returns-in-Ok-clause-moves : goal.returns-in-Ok-clause-moves
 returns-in-Ok-clause-moves c = on_ok_weaker c.answer.result

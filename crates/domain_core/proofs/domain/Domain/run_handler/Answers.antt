@@ -55,7 +55,7 @@ handle-requires c = record {
   lives =
       subst (λ (xs : List (Option KeptFiber)). IsSome (kept_at xs c.args.fiber)) (sym c.go_to.ensures)
       (lives_changed c.self.inside.fibers c.args.fiber _ (awake_there (the_view c.self.inside) c.args.fiber
-      (awake_then c.args.self.now c.new_protected.new.self (the_view c.self.inside) c.args.fiber c.in-Some.ensures.fibers.fibers c.self.view_is c.requires.awake)));
+      (awake_then c.args.self.now c.new_protected.new.self (the_view c.self.inside) c.args.fiber c.in-Some.ensures.fibers.fibers c.self.view_is c.requires.enters.awake)));
 }
 
 -- the handler, as it is handed over
@@ -80,12 +80,12 @@ to_head-requires-clause-awake c = (
     let same : record { block = c.handler.inside.node; values = c.new-values.result } ≡ c.args.handler
     = handed c.handler.inside.node c.handler.inside.env c.new-values.result c.into_values.result.items c.args.handler c.new-values.ensures c.into_values.ensures c.handler.view_is in
     handled_awake (the_view c.self.inside) c.new_protected.new.self c.self.view_is c.args.fiber
-    (awake_then c.args.self.now c.new_protected.new.self (the_view c.self.inside) c.args.fiber c.in-Some.ensures.fibers.fibers c.self.view_is c.requires.awake)
+    (awake_then c.args.self.now c.new_protected.new.self (the_view c.self.inside) c.args.fiber c.in-Some.ensures.fibers.fibers c.self.view_is c.requires.enters.awake)
     c.in-Some.context c.go_to.new.self c.go_to.ensures
     (nodes_of c.args.script.now) (ask.Close c.args.switch None c.args.kept) c.handler.inside.node c.new-values.result c.handle.new.self
     (handles_then c.args.script.now c.args.self.now c.new_protected.new.self (the_view c.self.inside) c.args.fiber c.in-Some.context (ask.Close c.args.switch None c.args.kept)
     (record { block = c.handler.inside.node; values = c.new-values.result }) c.go_to.new.self c.handle.new.self
-    c.in-Some.ensures.fibers.fibers c.self.view_is c.requires.awake c.requires.placed c.is_sound.ensures.sound c.is_sound.ensures.numbers
+    c.in-Some.ensures.fibers.fibers c.self.view_is c.requires.enters.awake c.requires.enters.placed c.is_sound.ensures.sound c.is_sound.ensures.numbers
     (subst (λ (x : Handler). BeginsBlock c.args.script.now x.block) (sym same) c.requires.handler) c.go_to.ensures c.in_ok-handle.ensures))
 
 pub returns-clause-makes : goal.returns-clause-makes
@@ -98,12 +98,12 @@ returns-clause-makes c = (
     (runs_makes c.args.script.now c.args.switch c.args.kept (record { block = c.handler.inside.node; values = c.new-values.result }) c.args.fiber c.in-Some.context
     c.args.self.now c.new_protected.new.self _ c.to_head.new.self c.in-Some.ensures.number (c.in-Some.ensures.becomes (nodes_of c.args.script.now))
     (handles_becomes (the_view c.self.inside) c.new_protected.new.self c.self.view_is c.args.fiber
-    (awake_then c.args.self.now c.new_protected.new.self (the_view c.self.inside) c.args.fiber c.in-Some.ensures.fibers.fibers c.self.view_is c.requires.awake)
+    (awake_then c.args.self.now c.new_protected.new.self (the_view c.self.inside) c.args.fiber c.in-Some.ensures.fibers.fibers c.self.view_is c.requires.enters.awake)
     c.in-Some.context c.go_to.new.self c.go_to.ensures
     (nodes_of c.args.script.now) (ask.Close c.args.switch None c.args.kept) c.handler.inside.node c.new-values.result c.handle.new.self
     (handles_then c.args.script.now c.args.self.now c.new_protected.new.self (the_view c.self.inside) c.args.fiber c.in-Some.context (ask.Close c.args.switch None c.args.kept)
     (record { block = c.handler.inside.node; values = c.new-values.result }) c.go_to.new.self c.handle.new.self
-    c.in-Some.ensures.fibers.fibers c.self.view_is c.requires.awake c.requires.placed c.is_sound.ensures.sound c.is_sound.ensures.numbers
+    c.in-Some.ensures.fibers.fibers c.self.view_is c.requires.enters.awake c.requires.enters.placed c.is_sound.ensures.sound c.is_sound.ensures.numbers
     begins c.go_to.ensures c.in_ok-handle.ensures))
     (blocks_by_node.found c.args.script.now c.is_sound.ensures.numbers c.handler.inside.node begins)
     (c.to_head.ensures.becomes (nodes_of c.args.script.now))))
