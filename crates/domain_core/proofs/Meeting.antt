@@ -44,7 +44,7 @@ module _ (script : Script) {texts : List (List ℕ)} {l : DomainState} {g : ℕ}
   met ask.Turn built is made = tt
   met (ask.Sub body) built is made = tt
   met (ask.Protect body) built is made = tt
-  met (ask.Cancel context text) built is made = counts.fits_context at context made
+  met (ask.Cancel context text) built is made = tt
   met (ask.Switch body) built is made = tt
   met (ask.Fork kind n body) built is made = forks kind n body built made
   met (ask.Fail n text) built is made = made_too n made

@@ -153,13 +153,6 @@ module _ {nodes : List Node} {texts : List (List ℕ)} {l : DomainState} {g : �
       let few : l.lines < 1000000 = at.few in
       omega (arith, same_count, made, most, few))
 
-  -- a context that was made has a number that fits
-  pub fits_context : (c : ℕ) → c < length l.contexts → c < 2 ^ 32
-  fits_context c below = (
-      let made : length l.contexts ≤ l.lines + 1 = at.sound.counted.contexts_made in
-      let few : l.lines < 1000000 = at.few in
-      omega (arith, below, made, few))
-
   -- ## Who is parked
 
   -- one that waits for others stands in no ready list, so that with all who do no more live than may

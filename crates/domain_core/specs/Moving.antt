@@ -1,5 +1,5 @@
 -- How the fiber that stands first in the ready list moves: its next call, and what is there once that was made.
-use Rattle.std.specs.Prelude.{◌≡◌, ◌≢◌, ℕ, ◌^◌, ◌<◌, Bool, false, List, ◌∷◌, ◌++◌, length, Some}
+use Rattle.std.specs.Prelude.{◌≡◌, ◌≢◌, ℕ, ◌<◌, Bool, false, List, ◌∷◌, ◌++◌, length, Some}
 use Rattle.cancel_tree.specs.Waits.{waits}
 use Rattle.eio_value.specs.declared.plain.Member.{Member}
 use Rattle.eio_value.specs.declared.raised.Outcome.{Outcome}
@@ -81,7 +81,7 @@ IsMetBy script g ask.AwaitCancel kept = (waits g kept.contexts.waiting ≡ false
 IsMetBy script g ask.Turn kept = Unit {0}
 IsMetBy script g (ask.Sub body) kept = Unit {0}
 IsMetBy script g (ask.Protect body) kept = Unit {0}
-IsMetBy script g (ask.Cancel context text) kept = context < 2 ^ 32
+IsMetBy script g (ask.Cancel context text) kept = Unit {0}
 IsMetBy script g (ask.Switch body) kept = Unit {0}
 IsMetBy script g (ask.Fork forking switch body) kept = (daemon : Bool) × (forking ≡ forking_by daemon) × (switch < length kept.switches)
 IsMetBy script g (ask.Fail switch text) kept = switch < length kept.switches

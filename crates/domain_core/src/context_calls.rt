@@ -117,16 +117,14 @@ impl Domain {
     pub(crate) fn cancel(
         &mut self,
         fiber: u32,
-        context: u64,
+        context: u32,
         text: TextId,
         told: &mut Told,
     ) -> Result<(), NoMemory>
         requires can { CanCall self.old fiber }
-        requires number { context < 2 ^ 32 }
         ensures answers { OnOk result ((script : Read) → Answers script (Ask.Cancel context text) fiber self.old told.new self.new) }
         ensures same { OnOk result (SameCounts self.old self.new) }
     {
-        let context = context as u32;
         let did = Did::Cancel(context, text);
         if !self.contexts.is_live(context) {
             return self.raise(fiber, did, Plain::Invalid(Misuse::ContextFinished), told);

@@ -78,7 +78,7 @@ impl Domain {
         &mut self,
         fiber: u32,
         daemon: bool,
-        switch: u64,
+        switch: u32,
         body: u32,
         told: &mut Told,
     ) -> Result<(), NoMemory>
@@ -87,7 +87,6 @@ impl Domain {
         ensures answers { OnOk result ((script : Read) → HasStatements (nodes_of script) body → Answers script (Ask.Fork (forking_by daemon) switch body) fiber self.old told.new self.new) }
         ensures same { OnOk result (SameCounts self.old self.new) }
     {
-        let switch = switch as u32;
         let did = did_fork(daemon, switch);
         if self.refuses_forks(switch) {
             self.to_head(fiber, Next::GoesOn(Value::Unit));
@@ -147,7 +146,7 @@ impl Domain {
     pub(crate) fn fail(
         &mut self,
         fiber: u32,
-        switch: u64,
+        switch: u32,
         text: TextId,
         told: &mut Told,
     ) -> Result<(), NoMemory>
@@ -156,7 +155,6 @@ impl Domain {
         ensures answers { OnOk result ((script : Read) → Answers script (Ask.Fail switch text) fiber self.old told.new self.new) }
         ensures same { OnOk result (SameCounts self.old self.new) }
     {
-        let switch = switch as u32;
         let did = Did::Fail(switch, text);
         if self.switches.is_finished(switch) {
             return self.raise(fiber, did, Plain::Invalid(Misuse::SwitchFinished), told);
@@ -175,7 +173,7 @@ impl Domain {
         &mut self,
         script: &Script,
         fiber: u32,
-        switch: u64,
+        switch: u32,
         handler: u32,
         told: &mut Told,
     ) -> Result<(), NoMemory>
@@ -183,10 +181,9 @@ impl Domain {
         ensures answers { OnOk result (Answers script.now (Ask.OnRelease switch handler) fiber self.old told.new self.new) }
         ensures same { OnOk result (SameCounts self.old self.new) }
     {
-        let number = switch as u32;
-        let did = Did::OnRelease(number);
-        if !self.switches.is_finished(number) {
-            self.register(fiber, number, handler)?;
+        let did = Did::OnRelease(switch);
+        if !self.switches.is_finished(switch) {
+            self.register(fiber, switch, handler)?;
             self.give(fiber, did, Value::Unit, told);
             return Ok(());
         }
