@@ -1,6 +1,6 @@
 -- Which values, calls, answers and messages fit between a domain and the objects that it calls: their texts are in the table; where it is told with
 -- which texts a fiber may fail, no other failure and no fault of a path occurs; and jobs are those of the script.
-use Rattle.std.specs.Prelude.{ℕ, ◌<◌, List, take, All, Option, Some, None}
+use Rattle.std.specs.Prelude.{ℕ, ◌<◌, ◌≤◌, List, take, All, Option, Some, None}
 use Rattle.std.specs.List.{Contains}
 use Rattle.eio_value.specs.declared.call.Answer.{Answer}
 use Rattle.eio_value.specs.declared.call.Answer.TheVariants as answer
@@ -69,8 +69,10 @@ FitsOutcome bounds (outcome.Err given) = FitsRaised bounds given
 
 -- ## Jobs, calls and what comes back
 
--- a job fits one of the submits, and has the values that it was given with it
+-- a job fits one of the submits, has the values that it was given with it, and takes a part of a worker, or a whole one
 pub record FitsJob (bounds : Bounds) (job : Job) : Type 0 where
+  pub least : 1 ≤ job.weight
+  pub most : job.weight ≤ 100
   pub submit : Contains bounds.submits (record { executor = job.executor; node = job.node; count = job.count })
   pub values : All (FitsValue bounds) (take job.count job.given)
 

@@ -1,5 +1,5 @@
 -- What a mocked domain calls beside the shared objects: flows, directories, and the readers, writers and capabilities that it opened, by their numbers.
-use Rattle.std.specs.Prelude.{◌≡◌, ℕ, ◌<◌, ◌≤◌, ◌^◌, Bool, true, false, ◌==◌, List, [], ◌∷◌, ◌++◌, All, length, Option, Some, None, pos}
+use Rattle.std.specs.Prelude.{◌≡◌, ℕ, ◌<◌, ◌≤◌, ◌^◌, Bool, true, false, IsTrue, ◌||◌, ◌==◌, List, [], ◌∷◌, ◌++◌, All, length, Option, Some, None, pos}
 use Rattle.eio_value.specs.declared.mock_call.Extra.{Extra}
 use Rattle.eio_value.specs.declared.mock_call.Extra.TheVariants as extra
 use Rattle.eio_value.specs.declared.mock_call.MockCall.{MockCall}
@@ -129,6 +129,35 @@ IsNew (Some kind) given things = (number : ℕ) × (number_of given ≡ Some num
 abbrev pub OpensNew : MockCall → Extra → Things → Type 0
 OpensNew call (extra.Done given said) things = IsNew (opened_by call) given things
 OpensNew call other things = Unit {0}
+
+-- ## Which answers may come
+
+-- a call that reads or copies may go on with the next move, or give way first
+abbrev pub reads_on : MockCall → Bool
+reads_on (call.Line reader) = true
+reads_on (call.TakeBytes reader count) = true
+reads_on (call.TakeAll reader) = true
+reads_on (call.Char reader) = true
+reads_on (call.AtEnd reader) = true
+reads_on (call.Copy from to) = true
+reads_on other = false
+
+abbrev pub is_carry : MockCall → Bool
+is_carry (call.Carry writer) = true
+is_carry other = false
+
+abbrev pub is_end : MockCall → Bool
+is_end (call.Shut number raised) = true
+is_end other = false
+
+-- what goes on with the next move is a read, a copy or the writing of what is pending; what gives way is a read or a copy; what waits is a copier that
+-- has nothing to write, or the end of a block
+abbrev pub MayCome : MockCall → Extra → Type 0
+MayCome call (extra.Done given it) = Unit {0}
+MayCome call (extra.More it) = IsTrue (reads_on call || is_carry call)
+MayCome call extra.Back = IsTrue (reads_on call)
+MayCome call extra.Waits = IsTrue (is_carry call || is_end call)
+MayCome call (extra.Raised given it) = Unit {0}
 
 -- ## What comes back
 

@@ -153,6 +153,12 @@ abbrev pub WasGiven : Jobs → Call → Type 0
 WasGiven jobs (call.Done object number given) = jobs object number ≡ true
 WasGiven jobs other = Unit {0}
 
+-- a job is given to the domain that calls for the next start, and in no other call
+abbrev pub MayStart : Call → Option Message → Type 0
+MayStart (call.NextStart object) message = Unit {0}
+MayStart other (Some (message.Start job number stamp)) = ⊥
+MayStart other message = Unit {0}
+
 abbrev pub with_job : Option Message → Jobs → Jobs
 with_job (Some (message.Start job number stamp)) jobs = λ executor other. jobs executor other || job.executor == executor && number == other
 with_job message jobs = jobs

@@ -8,7 +8,7 @@ ghost use Rattle.eio_value.specs.declared.message.Message.{Message};
 ghost use Rattle.eio_value.specs.declared.message.Waiter.{Waiter};
 ghost use Rattle.eio_value.specs.declared.mock_call.Extra.{Extra};
 ghost use Rattle.eio_value.specs.declared.mock_call.MockCall.{MockCall};
-ghost use Rattle.eio_value.specs.Things.{Things, FitsMock, things_behind, OpensNew, FitsExtra, Grows, LeavesOutside};
+ghost use Rattle.eio_value.specs.Things.{Things, FitsMock, things_behind, OpensNew, MayCome, FitsExtra, Grows, LeavesOutside};
 ghost use Rattle.eio_value.specs.Waits.{bounds_of};
 
 use crate::{Extra, MockCall, NoMemory, Objects, Texts};
@@ -45,6 +45,7 @@ pub trait Extras: Objects {
         requires fits { FitsMock (bounds_of (Self.terms self.old) (length texts.old)) (things self.old) call }
         ensures does { IfOk result (λ answer. extras self.old texts.old call serial answer texts.new self.new) }
         ensures fits { IfOk result (λ answer. FitsExtra (bounds_of (Self.terms self.old) (length texts.new)) answer) }
+        ensures comes { IfOk result (MayCome call) }
         ensures opens { IfOk result (λ answer. OpensNew call answer (things self.old)) }
         ensures things { IfOk result (λ answer. (number : ℕ) → things self.new number ≡ things_behind call answer (things self.old) number) }
         ensures grows { OnOk result (Grows 4 texts.old texts.new) }

@@ -11,7 +11,7 @@ ghost use Rattle.eio_value.specs.declared.call.Struck.{Struck};
 ghost use Rattle.eio_value.specs.declared.message.Message.{Message};
 ghost use Rattle.eio_value.specs.declared.message.Waiter.{Waiter};
 ghost use Rattle.eio_value.specs.Fitting.{FitsCall, FitsAnswered, FitsMessage};
-ghost use Rattle.eio_value.specs.Waits.{Terms, bounds_of, HasObject, Open, may_wait, waits, CanEnter, IsForOpen, open_answered, open_struck, open_behind, Jobs, WasGiven, with_job, struck_stamp, seen_in};
+ghost use Rattle.eio_value.specs.Waits.{Terms, bounds_of, HasObject, Open, may_wait, waits, CanEnter, IsForOpen, open_answered, open_struck, open_behind, Jobs, WasGiven, MayStart, with_job, struck_stamp, seen_in};
 
 use crate::{Answered, Call, Message, Struck, Waiter};
 
@@ -62,6 +62,7 @@ pub trait Objects {
         ensures seen { seen self.new ≡ result.stamp }
         ensures waits { waits result.answer ≡ true → may_wait call ≡ true }
         ensures waited { IsForOpen (is_open self.old) result.mine }
+        ensures starts { MayStart call result.mine }
         ensures opens { (other : Waiter) → is_open self.new other ≡ open_answered who result (is_open self.old) other }
         ensures gives { (executor number : ℕ) → jobs self.new executor number ≡ with_job result.mine (jobs self.old) executor number };
 
