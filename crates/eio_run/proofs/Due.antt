@@ -1,5 +1,5 @@
 -- What is due, by the command that the words mean; and what was written and can come, from what a command's own crate says.
-use Rattle.std.proofs.Common.{◌≡◌, ℕ, List, Some, None, IfSome, refl, ap, sym, subst, ◌∙◌}
+use Rattle.std.proofs.Common.{◌≡◌, ◌≢◌, ℕ, List, Some, None, IfSome, refl, ap, sym, subst, ◌∙◌}
 use Rattle.std.specs.Prelude.{Option}
 use Rattle.trace_out.specs.Outcome.{CanCome, Due, WritesFor}
 use Rattle.trace_lines.specs.declared.status.Status.{Status}
@@ -50,8 +50,8 @@ print_writes built words meant result left old new means is writes =
 
 -- ## What can come
 
-pub mock_comes : (built : Built) (words : List (List ℕ)) (meant : Option Command) (steps : ℕ) (result : Status) → meant ≡ meaning built words → meant ≡ Some (command.Mock steps) → CanComeOf (meaning built words) result
-mock_comes built words meant steps result means is = subst (λ (o : Option Command). CanComeOf o result) (sym (sym means ∙ is)) tt
+pub mock_comes : (built : Built) (words : List (List ℕ)) (meant : Option Command) (steps : ℕ) (result : Status) → meant ≡ meaning built words → meant ≡ Some (command.Mock steps) → result ≢ status.NotLegal → CanComeOf (meaning built words) result
+mock_comes built words meant steps result means is unchecked = subst (λ (o : Option Command). CanComeOf o result) (sym (sym means ∙ is)) unchecked
 
 pub check_comes : (built : Built) (words : List (List ℕ)) (meant : Option Command) (result : Status) → meant ≡ meaning built words → meant ≡ Some command.Check → CanCome result → CanComeOf (meaning built words) result
 check_comes built words meant result means is comes = subst (λ (o : Option Command). CanComeOf o result) (sym (sym means ∙ is)) comes

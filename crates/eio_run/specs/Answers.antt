@@ -1,8 +1,9 @@
 -- What is due to an input under the words of a command line, and what is written of it.
-use Rattle.std.specs.Prelude.{ℕ, List, Option, Some, None}
+use Rattle.std.specs.Prelude.{◌≢◌, ℕ, List, Option, Some, None}
 use Rattle.std.specs.Io.KnownBytes.{Keeps}
 use Rattle.trace_out.specs.Outcome.{CanCome, Due, WritesFor}
 use Rattle.trace_lines.specs.declared.status.Status.{Status}
+use Rattle.trace_lines.specs.declared.status.Status.TheVariants as status
 use Rattle.spec_script.specs.declared.Command.{Command}
 use Rattle.spec_script.specs.declared.Command.TheVariants as command
 use Rattle.spec_script.specs.Features.{Built}
@@ -33,9 +34,9 @@ abbrev pub Writes : Status → Option Due → Option (List ℕ) → Option (List
 Writes result None old new = Keeps old new
 Writes result (Some due) old new = WritesFor result due old new
 
--- the statuses that can come: of `mock` any that `Usage` leaves; else those of a command that runs nothing
+-- the statuses that can come: of `mock` any but that of a history that isn't legal; else those of a command that runs nothing
 abbrev pub CanComeOf : Option Command → Status → Type 0
-CanComeOf (Some (command.Mock steps)) result = Unit {0}
+CanComeOf (Some (command.Mock steps)) result = result ≢ status.NotLegal
 CanComeOf _ result = CanCome result
 
 -- `mock` is asked for, and runs the bytes to such a state

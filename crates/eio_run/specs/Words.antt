@@ -23,3 +23,7 @@ IsOfToday (Some (command.Domains lines)) = ⊥
 IsOfToday (Some command.Check) = Unit {0}
 IsOfToday (Some command.Print) = Unit {0}
 IsOfToday (Some (command.Load forks)) = ⊥
+IsOfToday (Some (command.Verify lines)) = ⊥
+IsOfToday (Some command.Expand) = ⊥
+IsOfToday (Some command.Paths) = ⊥
+IsOfToday (Some command.Migrate) = ⊥

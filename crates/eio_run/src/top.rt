@@ -50,7 +50,8 @@ pub fn eio_run<R: Threads + Wait + Sync, S: Source, K: Sink, G: Gate>(
     ensures source_later { S.faults source.old ≤ S.faults source.new }
     ensures sink_later { K.faults sink.old ≤ K.faults sink.new }
 
-    // `check` and `print` run nothing, so that they neither raise nor stand still, nor meet a limit of steps, fibers or contexts.
+    // `check` and `print` run nothing, so that they neither raise nor stand still, nor meet a limit of steps, fibers or contexts. No
+    // command of today checks a history.
     ensures over { CanComeOf (meaning built_today (map string_bytes words.now)) result }
 
     // The two endings of a run that comes to rest otherwise than well, each with its cause.
@@ -62,6 +63,13 @@ pub fn eio_run<R: Threads + Wait + Sync, S: Source, K: Sink, G: Gate>(
         Some(Command::Mock(steps)) => mock_run(alloc, source, sink, steps),
         Some(Command::Check) => inspect_run(alloc, Inspection::Check, source, sink),
         Some(Command::Print) => inspect_run(alloc, Inspection::Print, source, sink),
-        Some(Command::Domains(_) | Command::Load(_)) => unreachable!(),
+        Some(
+            Command::Domains(_)
+            | Command::Load(_)
+            | Command::Verify(_)
+            | Command::Expand
+            | Command::Paths
+            | Command::Migrate,
+        ) => unreachable!(),
     }
 }

@@ -3,6 +3,7 @@ ghost use Rattle.std.specs.Prelude.{◌≡◌, map};
 ghost use Rattle.std.specs.String.{string_bytes};
 ghost use Rattle.mock_backend.specs.Today.{built_today};
 ghost use Rattle.spec_script.specs.Words as words;
+ghost use Rattle.spec_script.specs.declared.Feature.TheVariants as feature;
 ghost use Rattle.spec_script.specs.Words.{meaning};
 ghost use Rattle.eio_run.specs.Words.{if_built, IsOfToday};
 
@@ -11,9 +12,9 @@ use crate::steps::mock_words;
 use spec_script::Command;
 use std::alloc::Global;
 
-/// The command that stands alone.
+/// The command that stands alone, where it belongs to reading.
 fn lone_word(alloc: Global, command: Command, rest: &[String]) -> Option<Command>
-    ensures means { result ≡ if_built (words.lone_word command (map string_bytes rest.now)) }
+    ensures means { result ≡ if_built (words.lone_word feature.Reading command (map string_bytes rest.now)) }
     ensures today { IsOfToday (Some command) → IsOfToday result }
 {
     if is_alone(alloc, rest) {

@@ -1,10 +1,13 @@
 -- From a run in code to what is due to the whole input.
 use Rattle.std.proofs.Common.{◌≡◌, ◌≢◌, ℕ, List, ◌++◌, Some, None, IfSome, Result, Ok, Err, refl, ap, sym, subst, ◌∙◌}
-use Rattle.std.specs.Prelude.{IfOk}
+use Rattle.std.specs.Prelude.{IfOk, Bool, true, false}
 use Rattle.std.specs.declared.option.Option.{Option}
 use Rattle.std.specs.Io.KnownBytes.{Appends}
 use Rattle.std.proofs.KnownBytes.{Appends-trans}
+use Rattle.eio_value.specs.declared.raised.Outcome.{Outcome}
+use Rattle.eio_value.specs.declared.raised.Outcome.TheVariants as outcome
 use Rattle.spec_script.specs.Inputs.{mocked_script}
+use Rattle.spec_script.specs.Refusals.{Refusal}
 use Rattle.spec_script.specs.Scripts.{Script}
 use Rattle.mock_backend.specs.Today.{built_today}
 use Rattle.trace_out.specs.Causes.{AppendsFront}
@@ -15,7 +18,8 @@ use Rattle.trace_out.proofs.Appended.{front_after, front_longer}
 use Rattle.spec_machine.specs.declared.Ending.{Ending}
 use Rattle.spec_machine.specs.declared.Ending.TheVariants as ending
 use Rattle.spec_machine.specs.Answers.{Answer, ended, ran, ran_if, mocked}
-use Rattle.spec_machine.specs.Trace.{run, trace, ending_in, last_line}
+use Rattle.spec_machine.specs.Mock.{Mock, Moved, move}
+use Rattle.spec_machine.specs.Trace.{body_end, ending_by, run, trace, ending_in, last_line}
 use Rattle.script_input.specs.declared.refusal.Refusal.{Refusal as Refused}
 use Rattle.script_input.specs.Refusals.{IsRefusedAs, line_of}
 use Rattle.mock_backend.specs.declared.fault.RunFault.{RunFault}
@@ -96,6 +100,7 @@ reads_ended ending.Refused old new h = h
 reads_ended ending.Deadlock old new h = h
 reads_ended ending.OutOfSteps old new h = h
 reads_ended ending.Limit old new h = h
+reads_ended ending.NotLegal old new h = h
 
 writes_ended : (e : Ending) (due : Due) (old new : Option (List ℕ)) → due.status ≡ ended e → Appends old new due.text → WritesFor (ended e) due old new
 writes_ended ending.Ok due old new h a = record { status = h; text = a }
@@ -104,6 +109,7 @@ writes_ended ending.Refused due old new h a = record { status = h; text = a }
 writes_ended ending.Deadlock due old new h a = record { status = h; text = a }
 writes_ended ending.OutOfSteps due old new h a = record { status = h; text = a }
 writes_ended ending.Limit due old new h a = record { status = h; text = a }
+writes_ended ending.NotLegal due old new h a = record { status = h; text = a }
 
 -- the answer to what was read is written whole
 pub writes_whole : (left rest : Option (List ℕ)) (n : ℕ) (input : List ℕ) (e : Ending) (old new : Option (List ℕ)) → ReadsInput left rest input → e ≡ (answer_to n input).ending → Appends old new (answer_to n input).text
@@ -127,3 +133,36 @@ status_asked ending.Refused same = cc
 status_asked ending.Deadlock same = cc
 status_asked ending.OutOfSteps same = cc
 status_asked ending.Limit same = cc
+status_asked ending.NotLegal same = cc
+
+-- ## No run is NotLegal
+
+came_unchecked : (came : Option Outcome) → ending_by came ≢ ending.NotLegal
+came_unchecked None same = cc
+came_unchecked (Some (outcome.Ok it)) same = cc
+came_unchecked (Some (outcome.Err raised)) same = cc
+
+ends_unchecked : (halted : Bool) (first : Option Moved) (came : Option Outcome)
+    → elim halted as (λ _. Ending) [ true ↦ ending.Limit | false ↦ elim first [ Some moved ↦ ending.OutOfSteps | None ↦ ending_by came ] ] ≢ ending.NotLegal
+ends_unchecked true first came same = cc
+ends_unchecked false (Some moved) came same = cc
+ends_unchecked false None came same = came_unchecked came same
+
+ran_unchecked : (n : ℕ) (read : Result Script Refusal) → (ran_if n read).ending ≢ ending.NotLegal
+ran_unchecked n (Ok script) same =
+    let last : Mock = (run script n).last in
+    ends_unchecked last.local.halted (move script last) (body_end last.local) (sym (ran_ending script n) ∙ same)
+ran_unchecked n (Err refusal) same = cc
+
+ended_unchecked : (e : Ending) → e ≢ ending.NotLegal → ended e ≢ status.NotLegal
+ended_unchecked ending.Ok differs same = cc
+ended_unchecked ending.Raised differs same = cc
+ended_unchecked ending.Refused differs same = cc
+ended_unchecked ending.Deadlock differs same = cc
+ended_unchecked ending.OutOfSteps differs same = cc
+ended_unchecked ending.Limit differs same = cc
+ended_unchecked ending.NotLegal differs same = differs refl
+
+pub status_unchecked : (n : ℕ) (bytes : List ℕ) (e : Ending) → e ≡ (answer_to n bytes).ending → ended e ≢ status.NotLegal
+status_unchecked n bytes e is =
+    ended_unchecked e (λ same. ran_unchecked n (mocked_script built_today bytes) (sym (ap (λ (a : Answer). a.ending) (answer_is n bytes)) ∙ (sym is ∙ same)))

@@ -101,6 +101,7 @@ ending_of status.Refused = ending.Refused
 ending_of status.Deadlock = ending.Deadlock
 ending_of status.OutOfSteps = ending.OutOfSteps
 ending_of status.Limit = ending.Limit
+ending_of status.NotLegal = ending.NotLegal
 ending_of other = ending.Ok
 
 ended_of : (e : Ending) → ending_of (ended e) ≡ e
@@ -111,6 +112,7 @@ ended_of ending.Refused = refl
 ended_of ending.Deadlock = refl
 ended_of ending.OutOfSteps = refl
 ended_of ending.Limit = refl
+ended_of ending.NotLegal = refl
 
 same_ending : (e f : Ending) → ended e ≡ ended f → e ≡ f
 same_ending e f same = sym (ended_of e) ∙ (ap ending_of same ∙ ended_of f)

@@ -4,7 +4,7 @@ use Rattle.std.specs.Prelude.{IfErr}
 use Rattle.spec_script.specs.Faults as model
 use Rattle.spec_script.specs.Inputs.{input_script, unless_at, mocked_script}
 use Rattle.spec_script.specs.RefusedForms.{domain_only, unbuilt}
-use Rattle.spec_script.specs.Refusals.{Refusal, TooLong, NoTree, NoScript, MockOnly, DomainOnly, Unbuilt, or_refused, refusal_line}
+use Rattle.spec_script.specs.Refusals.{Refusal, TooLong, NoTree, NoScript, MockOnly, DomainOnly, Unbuilt, NoHistory, NoList, NoNet, or_refused, refusal_line}
 use Rattle.spec_script.specs.Results.{◌>>=◌}
 use Rattle.spec_script.specs.Scripts.{Script, script_of}
 use Rattle.spec_script.specs.Trees.{Tree}
@@ -129,6 +129,9 @@ line_is (NoScript (model.Name at)) = refl
 line_is (MockOnly at) = refl
 line_is (DomainOnly at) = refl
 line_is (Unbuilt at) = refl
+line_is (NoHistory at) = refl
+line_is (NoList at) = refl
+line_is (NoNet at) = refl
 
 -- ## What was read
 

@@ -24,6 +24,7 @@ fn to_status(ending: Ending) -> Status
         Ending::Deadlock => Status::Deadlock,
         Ending::OutOfSteps => Status::OutOfSteps,
         Ending::Limit => Status::Limit,
+        Ending::NotLegal => Status::NotLegal,
     }
 }
 
@@ -54,8 +55,9 @@ pub fn mock_run<S: Source, K: Sink>(
     ensures source_later { S.faults source.old ≤ S.faults source.new }
     ensures sink_later { K.faults sink.old ≤ K.faults sink.new }
 
-    // No words are read here.
+    // No words are read here, and no history is checked.
     ensures asked { result ≢ Status.Usage }
+    ensures unchecked { result ≢ Status.NotLegal }
 
     // The two endings of a run that comes to rest otherwise than well, each with its cause.
     ensures raised { IfSome (S.left source.old) (λ bytes. ComesExactlyOf (RunsTo EndsRaised steps bytes) Status.Raised result) }

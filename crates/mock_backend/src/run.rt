@@ -56,7 +56,7 @@ fn last_line(
 {
     line.clear();
     match ending {
-        Ending::Ok | Ending::Refused => (),
+        Ending::Ok | Ending::Refused | Ending::NotLegal => (),
         Ending::Raised => {
             if let Some(Outcome::Err(raised)) = came {
                 line.push(b'!')?;

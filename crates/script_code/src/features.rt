@@ -63,5 +63,9 @@ fn feature_number(feature: Feature) -> u8
         Feature::Paths => 9,
         Feature::Domains => 10,
         Feature::Executors => 11,
+        Feature::Histories => 12,
+        Feature::Lists => 13,
+        Feature::Folders => 14,
+        Feature::Versions => 15,
     }
 }

@@ -5,7 +5,7 @@ use Rattle.spec_script.specs.Faults as model
 use Rattle.spec_script.specs.Trees.{Tree}
 use Rattle.spec_script.specs.Results.{◌>>=◌}
 use Rattle.spec_script.specs.Canonical.{document}
-use Rattle.spec_script.specs.Refusals.{TooLong, NoTree, NoScript, MockOnly, DomainOnly, Unbuilt, refusal_line, or_refused, input_tree}
+use Rattle.spec_script.specs.Refusals.{TooLong, NoTree, NoScript, MockOnly, DomainOnly, Unbuilt, NoHistory, NoList, NoNet, refusal_line, or_refused, input_tree}
 use Rattle.spec_script.specs.Refusals as refusals
 use Rattle.spec_script.specs.Scripts.{Script, script_of}
 use Rattle.spec_script.specs.Inputs.{Checked, checked, checked_by, printed, printed_by, refused_by, input_script}
@@ -35,6 +35,9 @@ line_is (NoScript (model.Name at)) = refl
 line_is (MockOnly at) = refl
 line_is (DomainOnly at) = refl
 line_is (Unbuilt at) = refl
+line_is (NoHistory at) = refl
+line_is (NoList at) = refl
+line_is (NoNet at) = refl
 
 checked_is : (bytes : List ℕ) → checked bytes ≡ checked_by (codes "ok\n") (input_script bytes)
 unfolding checked

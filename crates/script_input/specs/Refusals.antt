@@ -2,7 +2,7 @@
 use Rattle.std.specs.Prelude.{◌≡◌, ℕ, List, codes, Result, Err}
 use Rattle.spec_script.specs.Limits.{most_input_bytes}
 use Rattle.spec_script.specs.Faults as model
-use Rattle.spec_script.specs.Refusals.{TooLong, NoTree, NoScript, MockOnly, DomainOnly, Unbuilt, refusal_line_of}
+use Rattle.spec_script.specs.Refusals.{TooLong, NoTree, NoScript, MockOnly, DomainOnly, Unbuilt, NoHistory, NoList, NoNet, refusal_line_of}
 use Rattle.spec_script.specs.Refusals as refusals
 use Rattle.script_tree.specs.declared.fault.TreeFault.{TreeFault}
 use Rattle.script_tree.specs.declared.fault.TreeFault.TheVariants as tree_fault
@@ -29,6 +29,9 @@ kind_name kind.Name = codes "Name"
 kind_name kind.MockOnly = codes "MockOnly"
 kind_name kind.DomainOnly = codes "DomainOnly"
 kind_name kind.Unbuilt = codes "Unbuilt"
+kind_name kind.NoHistory = codes "NoHistory"
+kind_name kind.List = codes "List"
+kind_name kind.Net = codes "Net"
 
 -- the line of a refusal
 abbrev pub line_of : Refusal → List ℕ
@@ -60,6 +63,9 @@ seen (NoScript e) = seen_script e
 seen (MockOnly at) = at_place kind.MockOnly at
 seen (DomainOnly at) = at_place kind.DomainOnly at
 seen (Unbuilt at) = at_place kind.Unbuilt at
+seen (NoHistory at) = at_place kind.NoHistory at
+seen (NoList at) = at_place kind.List at
+seen (NoNet at) = at_place kind.Net at
 
 -- a fault of the readers in code as one of the input
 abbrev pub of_tree_fault : TreeFault → InputFault

@@ -35,6 +35,12 @@ pub enum Kind {
     DomainOnly,
     /// A form that isn't built yet.
     Unbuilt,
+    /// No byte 0, behind which the history stands that is to be checked.
+    NoHistory,
+    /// A form of lists that can't be written out.
+    List,
+    /// A form of the mocked network that can't be written out.
+    Net,
 }
 
 /// Why an input is refused, and the offset of the place in its bytes.
@@ -63,6 +69,9 @@ impl Kind {
             Kind::MockOnly => b"MockOnly",
             Kind::DomainOnly => b"DomainOnly",
             Kind::Unbuilt => b"Unbuilt",
+            Kind::NoHistory => b"NoHistory",
+            Kind::List => b"List",
+            Kind::Net => b"Net",
         }
     }
 }

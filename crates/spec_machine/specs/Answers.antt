@@ -1,5 +1,5 @@
 -- What a command answers to its input: the text that it writes, and how it ends. Of `domains` only a refusal is said here: what it writes of a script that it runs isn't
--- fixed, but one of its legal histories.
+-- fixed, but one of its legal histories. Of `verify`, `expand`, `paths` and `migrate` nothing is said yet.
 use Rattle.std.specs.Prelude.{ℕ, ◌==◌, true, false, List, [], ◌++◌, length, codes, count_by, Option, Some, None, Result, Ok, Err}
 use Rattle.std.specs.Fmt.{decimal}
 use Rattle.spec_script.specs.declared.Command.{Command}
@@ -30,6 +30,7 @@ ended ending.Refused = status.Refused
 ended ending.Deadlock = status.Deadlock
 ended ending.OutOfSteps = status.OutOfSteps
 ended ending.Limit = status.Limit
+ended ending.NotLegal = status.NotLegal
 
 abbrev pub refused_by : Refusal → Answer
 refused_by refusal = record { text = refusal_line refusal; ending = ending.Refused }
@@ -99,7 +100,11 @@ answer_for built (command.Domains lines) bytes = shared_refusal built bytes
 answer_for built command.Check bytes = Some (checked_as (checked bytes))
 answer_for built command.Print bytes = Some (checked_as (printed bytes))
 answer_for built (command.Load forks) bytes = Some (loaded forks)
+answer_for built (command.Verify lines) bytes = None
+answer_for built command.Expand bytes = None
+answer_for built command.Paths bytes = None
+answer_for built command.Migrate bytes = None
 
--- the answer to words and an input, where the words have a meaning, and `domains` refuses what it is asked to run
+-- the answer to words and an input, where the words have a meaning that an answer is said of, and `domains` refuses what it is asked to run
 unfoldable pub answered : Built → (words : List (List ℕ)) → (bytes : List ℕ) → Option Answer
 answered built words bytes = elim (meaning built words) [ None ↦ None | Some it ↦ answer_for built it bytes ]

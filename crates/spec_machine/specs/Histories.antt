@@ -88,7 +88,7 @@ abbrev pub raised_end : (texts : List (List ℕ)) → Option Outcome → List �
 raised_end texts (Some (outcome.Err raised)) = codes "end raised " ++ raised_text texts raised ++ codes "\n"
 raised_end texts other = []
 
--- the last line. An input that is refused has no history
+-- the last line. An input that is refused has no history, and no run is NotLegal
 abbrev pub end_line : (texts : List (List ℕ)) → Ending → Option Outcome → List ℕ
 end_line texts ending.Ok main = codes "end ok\n"
 end_line texts ending.Raised main = raised_end texts main
@@ -96,6 +96,7 @@ end_line texts ending.Refused main = []
 end_line texts ending.Deadlock main = codes "end deadlock\n"
 end_line texts ending.OutOfSteps main = codes "end out-of-steps\n"
 end_line texts ending.Limit main = codes "end limit\n"
+end_line texts ending.NotLegal main = []
 
 abbrev pub end_text : Script → Domains → List ℕ
 end_text script it = end_line (opening_texts script) (ending_of script it) (main_end it.locals)

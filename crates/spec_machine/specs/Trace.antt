@@ -59,7 +59,8 @@ abbrev pub raised_line : List (List ℕ) → Option Outcome → List ℕ
 raised_line texts (Some (outcome.Err raised)) = codes "!" ++ raised_text texts raised ++ codes "\n"
 raised_line texts other = []
 
--- the line behind the trace, which only an ending other than Ok has; that of a refusal stands alone, and is made by the refusal
+-- the line behind the trace, which only an ending other than Ok has; that of a refusal stands alone, and is made by the refusal. No run
+-- is NotLegal
 abbrev pub last_line : Ending → Mock → List ℕ
 last_line ending.Ok m = []
 last_line ending.Raised m = raised_line m.local.texts (body_end m.local)
@@ -67,3 +68,4 @@ last_line ending.Refused m = []
 last_line ending.Deadlock m = codes "!Deadlock_detected\n"
 last_line ending.OutOfSteps m = codes "!Out_of_steps\n"
 last_line ending.Limit m = codes "!Limit\n"
+last_line ending.NotLegal m = []

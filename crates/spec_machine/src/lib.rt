@@ -6,7 +6,7 @@
 //! with code.
 #![tactic(auto)]
 
-/// How a run ends, or that its input was refused.
+/// How a run ends, or that its input was refused, or that a history which was checked is none of its script.
 #[derive(Clone, Copy, Debug, PartialEq, Eq)]
 pub enum Ending {
     /// Main has ended with a value.
@@ -20,4 +20,6 @@ pub enum Ending {
     OutOfSteps,
     /// More fibers, contexts or jobs were asked for than there may be.
     Limit,
+    /// No run ends so: a history was checked, and is none of its script.
+    NotLegal,
 }

@@ -22,6 +22,10 @@ feature_number feature.Flows = 8
 feature_number feature.Paths = 9
 feature_number feature.Domains = 10
 feature_number feature.Executors = 11
+feature_number feature.Histories = 12
+feature_number feature.Lists = 13
+feature_number feature.Folders = 14
+feature_number feature.Versions = 15
 
 -- whether a feature is among those that are built
 abbrev pub is_built : Built → Feature → Bool
@@ -42,4 +46,8 @@ all_built =
     ∷ feature.Paths
     ∷ feature.Domains
     ∷ feature.Executors
+    ∷ feature.Histories
+    ∷ feature.Lists
+    ∷ feature.Folders
+    ∷ feature.Versions
     ∷ []

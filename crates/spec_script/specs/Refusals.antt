@@ -15,6 +15,9 @@ use Rattle.spec_script.specs.Reading.{reading}
 --   MockOnly    a form that several domains don't run, where the command runs several
 --   DomainOnly  a further body, where the command runs one domain
 --   Unbuilt     a form that isn't built yet, where the command runs the script
+--   NoHistory   it has no byte 0, where the command checks a history, which stands behind that byte
+--   NoList      a form of lists that can't be written out, where the command writes them out
+--   NoNet       a form of the mocked network that can't be written out, likewise
 pub data Refusal : Type 0 where
   TooLong : Refusal
   NoTree : TreeFault → Refusal
@@ -22,6 +25,9 @@ pub data Refusal : Type 0 where
   MockOnly : (at : ℕ) → Refusal
   DomainOnly : (at : ℕ) → Refusal
   Unbuilt : (at : ℕ) → Refusal
+  NoHistory : (at : ℕ) → Refusal
+  NoList : (at : ℕ) → Refusal
+  NoNet : (at : ℕ) → Refusal
 
 -- the line of a kind and a place
 abbrev pub refusal_line_of : (kind : List ℕ) → (at : ℕ) → List ℕ
@@ -49,6 +55,9 @@ refusal_line (NoScript e) = script_fault_line e
 refusal_line (MockOnly at) = refusal_line_of (codes "MockOnly") at
 refusal_line (DomainOnly at) = refusal_line_of (codes "DomainOnly") at
 refusal_line (Unbuilt at) = refusal_line_of (codes "Unbuilt") at
+refusal_line (NoHistory at) = refusal_line_of (codes "NoHistory") at
+refusal_line (NoList at) = refusal_line_of (codes "List") at
+refusal_line (NoNet at) = refusal_line_of (codes "Net") at
 
 -- a fault of a step as the refusal of the input
 abbrev pub or_refused : {A E : Type 0} → (E → Refusal) → Result A E → Result A Refusal

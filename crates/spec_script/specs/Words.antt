@@ -1,7 +1,9 @@
 -- What the words of a command line ask for. A list of words has a meaning exactly where it is one of
 --   mock                      mock --steps N       mock --steps=N        N from 1 to 1,000,000
 --   domains                   domains --lines N    domains --lines=N     N from 1 to 100,000
---   check                     print
+--   verify                    verify --lines N     verify --lines=N      N from 1 to 100,000
+--   check                     print                expand
+--   paths                     migrate
 --   load N                                                               N from 1 to 1,000
 -- and what it needs is built. N is spelled as a numeral: `0`, or digits that don't begin with 0.
 use Rattle.std.specs.Prelude.{ℕ, ◌+◌, true, false, ◌&&◌, nat_eq, nat_le, if◌then◌else◌, List, [], ◌∷◌, ◌++◌, length, drop, codes, Option, Some, None}
@@ -45,7 +47,7 @@ asks_number feature command (Some n) = asks feature (command n)
 abbrev pub asks_option : Feature → (ℕ → Command) → (option : List ℕ) → (most : ℕ) → List (List ℕ) → Option Asked
 asks_option feature command option most words = elim (option_value option words) [ None ↦ None | Some value ↦ asks_number feature command (number_of most value) ]
 
--- the words behind `mock`, `domains`, `check` or `print`, and `load`
+-- the words behind `mock`, `domains` and `verify`; behind `check`, `print`, `expand`, `paths` and `migrate`, which have none; behind `load`
 abbrev pub mock_words : List (List ℕ) → Option Asked
 mock_words [] = asks feature.FirstForms (command.Mock most_steps)
 mock_words (word ∷ words) = asks_option feature.Steps command.Mock (codes "--steps") most_steps (word ∷ words)
@@ -54,9 +56,13 @@ abbrev pub domains_words : List (List ℕ) → Option Asked
 domains_words [] = asks feature.Domains (command.Domains most_lines)
 domains_words (word ∷ words) = asks_option feature.Domains command.Domains (codes "--lines") most_lines (word ∷ words)
 
-abbrev pub lone_word : Command → List (List ℕ) → Option Asked
-lone_word command [] = asks feature.Reading command
-lone_word command (word ∷ words) = None
+abbrev pub verify_words : List (List ℕ) → Option Asked
+verify_words [] = asks feature.Histories (command.Verify most_lines)
+verify_words (word ∷ words) = asks_option feature.Histories command.Verify (codes "--lines") most_lines (word ∷ words)
+
+abbrev pub lone_word : Feature → Command → List (List ℕ) → Option Asked
+lone_word feature command [] = asks feature command
+lone_word feature command (word ∷ words) = None
 
 abbrev pub load_words : List (List ℕ) → Option Asked
 load_words [] = None
@@ -71,10 +77,18 @@ asked (name ∷ words) =
     else
     (if bytes_eq name (codes "domains") then domains_words words
     else
-    (if bytes_eq name (codes "check") then lone_word command.Check words
+    (if bytes_eq name (codes "check") then lone_word feature.Reading command.Check words
     else
-    (if bytes_eq name (codes "print") then lone_word command.Print words
-    else (if bytes_eq name (codes "load") then load_words words else None))))
+    (if bytes_eq name (codes "print") then lone_word feature.Reading command.Print words
+    else
+    (if bytes_eq name (codes "load") then load_words words
+    else
+    (if bytes_eq name (codes "verify") then verify_words words
+    else
+    (if bytes_eq name (codes "expand") then lone_word feature.Lists command.Expand words
+    else
+    (if bytes_eq name (codes "paths") then lone_word feature.Folders command.Paths words
+    else (if bytes_eq name (codes "migrate") then lone_word feature.Versions command.Migrate words else None))))))))
 
 -- the command that words mean
 unfoldable pub meaning : Built → List (List ℕ) → Option Command

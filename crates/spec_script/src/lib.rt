@@ -31,6 +31,14 @@ pub enum Command {
     Print,
     /// Runs the generated script of so many forks.
     Load(u32),
+    /// Checks a history of a script against that script, each domain of at most so many lines.
+    Verify(u32),
+    /// Writes the tree in which the forms of lists and of the mocked network are written out.
+    Expand,
+    /// Runs path calls on a directory that the input tells.
+    Paths,
+    /// Writes a script with the newest version of the notation.
+    Migrate,
 }
 
 /// A group of forms or commands that is built at one time.
@@ -60,4 +68,12 @@ pub enum Feature {
     Domains,
     /// Executors and their jobs.
     Executors,
+    /// The command `verify`.
+    Histories,
+    /// The command `expand`.
+    Lists,
+    /// The command `paths`.
+    Folders,
+    /// The second version of the notation; the command `migrate`.
+    Versions,
 }

@@ -156,6 +156,62 @@ load_two_numbers : three (codes "load") (codes "1") (codes "2") ≡ None
 unfolding three meaning
 load_two_numbers = refl
 
+verify : one (codes "verify") ≡ Some (command.Verify 100000)
+unfolding one meaning
+verify = refl
+
+verify_with_lines : three (codes "verify") (codes "--lines") (codes "2") ≡ Some (command.Verify 2)
+unfolding three meaning
+verify_with_lines = refl
+
+verify_with_lines_in_one_word : two (codes "verify") (codes "--lines=100000") ≡ Some (command.Verify 100000)
+unfolding two meaning
+verify_with_lines_in_one_word = refl
+
+verify_with_the_least_lines : two (codes "verify") (codes "--lines=1") ≡ Some (command.Verify 1)
+unfolding two meaning
+verify_with_the_least_lines = refl
+
+verify_with_too_many_lines : two (codes "verify") (codes "--lines=100001") ≡ None
+unfolding two meaning
+verify_with_too_many_lines = refl
+
+verify_with_no_lines : three (codes "verify") (codes "--lines") (codes "0") ≡ None
+unfolding three meaning
+verify_with_no_lines = refl
+
+verify_without_a_number : two (codes "verify") (codes "--lines") ≡ None
+unfolding two meaning
+verify_without_a_number = refl
+
+verify_with_the_option_of_mock : three (codes "verify") (codes "--steps") (codes "2") ≡ None
+unfolding three meaning
+verify_with_the_option_of_mock = refl
+
+expand : one (codes "expand") ≡ Some command.Expand
+unfolding one meaning
+expand = refl
+
+expand_and_more : two (codes "expand") (codes "x") ≡ None
+unfolding two meaning
+expand_and_more = refl
+
+paths : one (codes "paths") ≡ Some command.Paths
+unfolding one meaning
+paths = refl
+
+paths_and_more : two (codes "paths") (codes "--help") ≡ None
+unfolding two meaning
+paths_and_more = refl
+
+migrate : one (codes "migrate") ≡ Some command.Migrate
+unfolding one meaning
+migrate = refl
+
+migrate_and_more : two (codes "migrate") (codes "2") ≡ None
+unfolding two meaning
+migrate_and_more = refl
+
 an_unknown_word : one (codes "mocks") ≡ None
 unfolding one meaning
 an_unknown_word = refl
@@ -188,6 +244,51 @@ load_before_the_streams = refl
 domains_before_their_time : meaning (feature.FirstForms ∷ feature.Reading ∷ []) (codes "domains" ∷ []) ≡ None
 unfolding meaning
 domains_before_their_time = refl
+
+-- what the words mean where these are built, as in the program of today
+among_the_built : List (List ℕ) → Option Command
+among_the_built words = meaning (feature.FirstForms ∷ feature.Reading ∷ feature.Steps ∷ feature.Exceptions ∷ feature.Switches ∷ feature.Groups ∷ []) words
+
+verify_before_the_histories : among_the_built (codes "verify" ∷ []) ≡ None
+unfolding among_the_built meaning
+verify_before_the_histories = refl
+
+verify_with_lines_before_the_histories : among_the_built (codes "verify" ∷ codes "--lines" ∷ codes "2" ∷ []) ≡ None
+unfolding among_the_built meaning
+verify_with_lines_before_the_histories = refl
+
+expand_before_the_lists : among_the_built (codes "expand" ∷ []) ≡ None
+unfolding among_the_built meaning
+expand_before_the_lists = refl
+
+paths_before_the_folders : among_the_built (codes "paths" ∷ []) ≡ None
+unfolding among_the_built meaning
+paths_before_the_folders = refl
+
+migrate_before_the_versions : among_the_built (codes "migrate" ∷ []) ≡ None
+unfolding among_the_built meaning
+migrate_before_the_versions = refl
+
+verify_in_its_time : meaning (feature.Histories ∷ []) (codes "verify" ∷ codes "--lines=2" ∷ []) ≡ Some (command.Verify 2)
+unfolding meaning
+verify_in_its_time = refl
+
+expand_in_its_time : meaning (feature.Lists ∷ []) (codes "expand" ∷ []) ≡ Some command.Expand
+unfolding meaning
+expand_in_its_time = refl
+
+paths_in_their_time : meaning (feature.Folders ∷ []) (codes "paths" ∷ []) ≡ Some command.Paths
+unfolding meaning
+paths_in_their_time = refl
+
+migrate_in_its_time : meaning (feature.Versions ∷ []) (codes "migrate" ∷ []) ≡ Some command.Migrate
+unfolding meaning
+migrate_in_its_time = refl
+
+-- directories in scripts are another feature than the command
+paths_beside_the_forms : meaning (feature.Paths ∷ []) (codes "paths" ∷ []) ≡ None
+unfolding meaning
+paths_beside_the_forms = refl
 
 mock_before_all : meaning [] (codes "mock" ∷ []) ≡ None
 unfolding meaning

@@ -3,7 +3,7 @@ use Rattle.std.proofs.Common.{◌≡◌, refl}
 use Rattle.std.specs.Prelude.{codes}
 use Rattle.std.specs.Fmt.{digits}
 use Rattle.spec_script.specs.Faults as fault
-use Rattle.spec_script.specs.Refusals.{TooLong, NoTree, NoScript, MockOnly, DomainOnly, Unbuilt, refusal_line}
+use Rattle.spec_script.specs.Refusals.{TooLong, NoTree, NoScript, MockOnly, DomainOnly, Unbuilt, NoHistory, NoList, NoNet, refusal_line}
 
 too_long : refusal_line TooLong ≡ codes "!Refused Size at 262144\n"
 unfolding refusal_line digits
@@ -60,3 +60,15 @@ domain_only = refl
 unbuilt : refusal_line (Unbuilt 13) ≡ codes "!Refused Unbuilt at 13\n"
 unfolding refusal_line digits
 unbuilt = refl
+
+no_history : refusal_line (NoHistory 15) ≡ codes "!Refused NoHistory at 15\n"
+unfolding refusal_line digits
+no_history = refl
+
+no_list : refusal_line (NoList 21) ≡ codes "!Refused List at 21\n"
+unfolding refusal_line digits
+no_list = refl
+
+no_net : refusal_line (NoNet 5) ≡ codes "!Refused Net at 5\n"
+unfolding refusal_line digits
+no_net = refl

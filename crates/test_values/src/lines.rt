@@ -52,6 +52,7 @@ fn answer_statuses(log: &mut Vec<u8>) -> Result<(), NoMemory> {
         ("no memory", Status::NoMemory),
         ("usage", Status::Usage),
         ("limit", Status::Limit),
+        ("not legal", Status::NotLegal),
     ];
     for (asked, status) in rows {
         push_count(log, asked, status.code() as u64)?;

@@ -25,10 +25,12 @@ pub enum Status {
     Usage,
     /// The run came to a limit of the program.
     Limit,
+    /// The history that was checked is none of its script.
+    NotLegal,
 }
 
 impl Status {
-    /// The exit status of the program, 0 to 9.
+    /// The exit status of the program, 0 to 10.
     pub fn code(self) -> u8
         ensures { result ≡ exit_code self }
     {

@@ -55,10 +55,11 @@ HasItsCause status.ReadFault source_old source_new sink_old sink_new = Rose sour
 HasItsCause status.WriteFault source_old source_new sink_old sink_new = Rose sink_old sink_new
 HasItsCause _ source_old source_new sink_old sink_new = Unit {0}
 
--- the answer of a command that runs nothing, or runs what always comes to its end
+-- the answer of a command that runs nothing, or runs what always comes to its end, and that checks no history
 abbrev pub CanCome : Status → Type 0
 CanCome status.Raised = ⊥
 CanCome status.Deadlock = ⊥
 CanCome status.OutOfSteps = ⊥
 CanCome status.Limit = ⊥
+CanCome status.NotLegal = ⊥
 CanCome _ = Unit {0}

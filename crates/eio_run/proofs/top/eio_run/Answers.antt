@@ -15,7 +15,7 @@ pub returns-in-Some-Print-clause-text : goal.returns-in-Some-Print-clause-text
 returns-in-Some-Print-clause-text g c = print_writes _ _ _ _ _ _ _ c.command_of.ensures.means (c.in-Some-Print.is ∙ ap Some c.in-Some-Print.field-0-is) c.inspect_run-in-Some-Print.ensures.text
 
 pub returns-in-Some-Mock-clause-over : goal.returns-in-Some-Mock-clause-over
-returns-in-Some-Mock-clause-over g c = mock_comes _ _ _ c.in-Some-Mock.steps _ c.command_of.ensures.means (c.in-Some-Mock.is ∙ ap Some c.in-Some-Mock.field-0-is)
+returns-in-Some-Mock-clause-over g c = mock_comes _ _ _ c.in-Some-Mock.steps _ c.command_of.ensures.means (c.in-Some-Mock.is ∙ ap Some c.in-Some-Mock.field-0-is) c.mock_run.ensures.unchecked
 
 pub returns-in-Some-Check-clause-over : goal.returns-in-Some-Check-clause-over
 returns-in-Some-Check-clause-over g c = check_comes _ _ _ _ c.command_of.ensures.means (c.in-Some-Check.is ∙ ap Some c.in-Some-Check.field-0-is) c.inspect_run.ensures.over

@@ -3,7 +3,7 @@ use Rattle.std.specs.Io.KnownBytes.{Appends}
 use Rattle.trace_out.specs.Causes.{AppendsFront}
 use Rattle.trace_out.proofs.Consumed.{has_read_through}
 use Rattle.mock_backend.specs.Due.{answer_to}
-use Rattle.mock_backend.proofs.Answered.{front_of_answer, reads_ended, status_asked, writes_whole}
+use Rattle.mock_backend.proofs.Answered.{front_of_answer, reads_ended, status_asked, status_unchecked, writes_whole}
 use Rattle.mock_backend.proofs.EndCauses.{raised_comes, stuck_comes}
 use Rattle.mock_backend.proofs.mock.mock_run.Goals as goal
 
@@ -20,6 +20,9 @@ returns-in-Ok-respond-clause-text g c =
 
 pub returns-in-Ok-respond-clause-asked : goal.returns-in-Ok-respond-clause-asked
 returns-in-Ok-respond-clause-asked g c = rw c.to_status.ensures (status_asked _)
+
+pub returns-in-Ok-respond-clause-unchecked : goal.returns-in-Ok-respond-clause-unchecked
+returns-in-Ok-respond-clause-unchecked g c = rw c.to_status.ensures (status_unchecked c.args.steps _ _ c.in-Ok-respond.ensures.ending)
 
 pub returns-in-Ok-respond-clause-raised : goal.returns-in-Ok-respond-clause-raised
 returns-in-Ok-respond-clause-raised g c =
