@@ -9,6 +9,7 @@ use Rattle.spec_script.specs.Entries.{entries}
 use Rattle.spec_script.specs.Expressions.{item, traced}
 use Rattle.spec_script.specs.FlowSteps.{steps}
 use Rattle.spec_script.specs.Forms.{form_of}
+use Rattle.spec_script.specs.Limits.{limits_of}
 use Rattle.spec_script.specs.Inputs.{input_script, mocked_script}
 use Rattle.spec_script.specs.Opening.{opening_texts}
 use Rattle.spec_script.specs.Reading.{past_gap, text_items, run_tree, trees_by, tree_at, reading}
@@ -32,7 +33,7 @@ use Rattle.mock_backend.specs.Due.{answer_to, due}
 
 -- all that it is computed by is opened: what reads, and then what runs
 unfoldable mocks_in : (steps : ℕ) → (script : String) → Due
-unfolding past_gap text_items run_tree trees_by tree_at reading input_tree bring used directory_of form_of item traced captured_behind reads.statements steps entries workers declaration declarations_behind domains script_of input_script mocked_script refusal_line digits opening_texts way_within value_of values_of silent.statements settling.answered own_call prepared move moves run ran mocked
+unfolding past_gap text_items run_tree trees_by tree_at reading input_tree bring used directory_of form_of item traced captured_behind reads.statements steps entries workers declaration declarations_behind limits_of domains script_of input_script mocked_script refusal_line digits opening_texts way_within value_of values_of silent.statements settling.answered own_call prepared move moves run ran mocked
 mocks_in n script = due (answer_to n (codes script))
 
 abbrev ok : (text : String) → Due

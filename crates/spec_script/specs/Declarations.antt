@@ -7,7 +7,8 @@ use Rattle.eio_value.specs.declared.flow_step.FlowStep.{FlowStep}
 use Rattle.eio_value.specs.Directory.{Directory}
 use Rattle.spec_script.specs.declared.Feature.{Feature}
 use Rattle.spec_script.specs.declared.Feature.TheVariants.{StreamsAndPromises, Resources, Flows, Paths, Executors}
-use Rattle.spec_script.specs.Limits.{most_declarations, most_workers, capacities, counts, sizes}
+use Rattle.spec_script.specs.declared.Limits.{Limits}
+use Rattle.spec_script.specs.Limits.{most_workers, capacities, counts, sizes}
 use Rattle.spec_script.specs.Trees.{Tree, Word, Number, Branch, Trees, Nil, And, place_of}
 use Rattle.spec_script.specs.Faults.{Shape, Size, Twice}
 use Rattle.spec_script.specs.Kinds.{Kind, StreamKind, PromiseKind, SemaphoreKind, MutexKind, PoolKind, ExecutorKind, FlowKind, DirectoryKind}
@@ -100,19 +101,19 @@ declare before kind (Word at name) items =
 declare before kind tree items = refuses (Shape (place_of tree))
 
 -- a declaration by its form
-abbrev pub declaration_by : Declared → (at : ℕ) → DeclarationForm → Tree → Option (Reads Declaration) → Reads Declared
-declaration_by before at form name None = refuses (Shape at)
-declaration_by before at form name (Some items) =
-    requires_that (nat_lt (length before.declarations) most_declarations) (Size at) >>> λ _. one_form at form.feature form.mocked >>> λ _.
+abbrev pub declaration_by : Limits → Declared → (at : ℕ) → DeclarationForm → Tree → Option (Reads Declaration) → Reads Declared
+declaration_by limits before at form name None = refuses (Shape at)
+declaration_by limits before at form name (Some items) =
+    requires_that (nat_lt (length before.declarations) limits.declarations) (Size at) >>> λ _. one_form at form.feature form.mocked >>> λ _.
     declare before form.kind name items
 
-unfoldable pub declaration : (bodies : ℕ) → Declared → Tree → Reads Declared
-declaration bodies before (Branch at (And (Word place word) (And name items))) = elim (declaration_form_of word) [
+unfoldable pub declaration : Limits → (bodies : ℕ) → Declared → Tree → Reads Declared
+declaration limits bodies before (Branch at (And (Word place word) (And name items))) = elim (declaration_form_of word) [
   | None ↦ refuses (Shape at)
-  | Some form ↦ declaration_by before at form name (items_of form.kind bodies items)
+  | Some form ↦ declaration_by limits before at form name (items_of form.kind bodies items)
 ]
-declaration bodies before tree = refuses (Shape (place_of tree))
+declaration limits bodies before tree = refuses (Shape (place_of tree))
 
-unfoldable pub declarations_behind : (bodies : ℕ) → Declared → Trees → Reads Declared
-declarations_behind bodies before Nil = gives before
-declarations_behind bodies before (And tree row) = declaration bodies before tree >>> λ more. declarations_behind bodies more row
+unfoldable pub declarations_behind : Limits → (bodies : ℕ) → Declared → Trees → Reads Declared
+declarations_behind limits bodies before Nil = gives before
+declarations_behind limits bodies before (And tree row) = declaration limits bodies before tree >>> λ more. declarations_behind limits bodies more row

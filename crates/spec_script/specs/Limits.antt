@@ -1,5 +1,6 @@
 -- The limits of the notation and of scripts.
 use Rattle.std.specs.Prelude.{ℕ, ◌^◌, Bool, nat_lt, ℤ, pos, negsuc}
+use Rattle.spec_script.specs.declared.Limits.{Limits}
 
 -- ## Inputs and their trees
 
@@ -26,12 +27,9 @@ is_within (negsuc n) = nat_lt n (2 ^ 63)
 
 -- ## How many of a thing a script may have
 
-abbrev pub most_declarations : ℕ
-most_declarations = 64
-
--- main and the further bodies
-abbrev pub most_bodies : ℕ
-most_bodies = 8
+-- of the scripts of a version, and of their runs. A version that has others than the first stands on a line of its own, above the last
+unfoldable pub limits_of : (version : ℕ) → Limits
+limits_of version = record { declarations = 64; bodies = 8; fibers = 1024; contexts = 4096; jobs = 1024 }
 
 -- names in scope at one place, besides those of declarations
 abbrev pub most_names : ℕ

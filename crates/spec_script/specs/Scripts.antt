@@ -1,8 +1,9 @@
--- The script that a tree stands for: `(eio 1 DECLARATION* (main STATEMENT*) (domain STATEMENT*)*)`, or its first refused node.
-use Rattle.std.specs.Prelude.{ℕ, ◌+◌, Bool, true, false, ◌==◌, nat_lt, List, [], ◌∷◌, ℤ, pos, negsuc, Option, Some, None, is_some, option_map, Result, Ok, Err, codes}
+-- The script that a tree stands for: `(eio VERSION DECLARATION* (main STATEMENT*) (domain STATEMENT*)*)`, or its first refused node.
+use Rattle.std.specs.Prelude.{ℕ, ◌+◌, true, false, ◌==◌, nat_lt, List, [], ◌∷◌, ℤ, pos, negsuc, Option, Some, None, is_some, option_map, Result, Ok, Err, codes}
 use Rattle.std.specs.Str.{bytes_eq}
 use Rattle.eio_value.specs.declared.value.TextId.{TextId}
-use Rattle.spec_script.specs.Limits.{most_bodies}
+use Rattle.spec_script.specs.declared.Limits.{Limits}
+use Rattle.spec_script.specs.Limits.{limits_of}
 use Rattle.spec_script.specs.Trees.{Tree, Word, Number, Branch, Trees, Nil, And, place_of}
 use Rattle.spec_script.specs.Faults.{ScriptFault, Shape, Size}
 use Rattle.spec_script.specs.Results.{◌>>=◌}
@@ -12,9 +13,10 @@ use Rattle.spec_script.specs.Scopes.{Scope}
 use Rattle.spec_script.specs.Statements.{statements, block_of}
 use Rattle.spec_script.specs.Declarations.{Declaration, Declared, nothing_declared, declarations_behind}
 
--- the declarations with their names, the bodies with main first, the table of texts so far, the texts with which a fiber may fail, the
+-- the version of the notation, the declarations with their names, the bodies with main first, the table of texts so far, the texts with which a fiber may fail, the
 -- forms in reading order, and the place of the first `domain` if there is one
 pub record Script : Type 0 where
+  pub version : ℕ
   pub names : List TextId
   pub declarations : List Declaration
   pub bodies : List Block
@@ -64,25 +66,25 @@ abbrev pub body : Declared → Trees → Reads Block
 body declared items = block_of (statements (body_scope declared) items)
 
 -- the bodies behind main, of which n came before with it
-unfoldable pub domains : Declared → (n : ℕ) → Trees → Reads (List Block)
-domains declared n Nil = gives []
-domains declared n (And tree row) = elim (items_behind (codes "domain") tree) [
+unfoldable pub domains : Limits → Declared → (n : ℕ) → Trees → Reads (List Block)
+domains limits declared n Nil = gives []
+domains limits declared n (And tree row) = elim (items_behind (codes "domain") tree) [
   | None ↦ refuses (Shape (place_of tree))
   | Some items ↦
-      (requires_that (nat_lt n most_bodies) (Size (place_of tree)) >>> λ _.
+      (requires_that (nat_lt n limits.bodies) (Size (place_of tree)) >>> λ _.
       body declared items >>> λ first.
-      domains declared (n + 1) row >>> λ others.
+      domains limits declared (n + 1) row >>> λ others.
       gives (first ∷ others))
 ]
 
 -- ## Scripts
 
 -- the declarations and bodies of these parts
-abbrev pub read_parts : Parts → Reads (Declared × List Block)
-read_parts parts =
-    declarations_behind (bodies_of parts) nothing_declared parts.before >>> λ declared.
+abbrev pub read_parts : Limits → Parts → Reads (Declared × List Block)
+read_parts limits parts =
+    declarations_behind limits (bodies_of parts) nothing_declared parts.before >>> λ declared.
     body declared parts.main >>> λ main.
-    domains declared 1 parts.behind >>> λ others.
+    domains limits declared 1 parts.behind >>> λ others.
     gives (declared, main ∷ others)
 
 -- the place of the first tree; behind the main of a script stand further bodies alone
@@ -90,8 +92,9 @@ abbrev pub first_place : Trees → Option ℕ
 first_place Nil = None
 first_place (And tree row) = Some (place_of tree)
 
-abbrev pub script_by : Parts → Declared → List Block → Made → Script
-script_by parts declared bodies made = record {
+abbrev pub script_by : (version : ℕ) → Parts → Declared → List Block → Made → Script
+script_by version parts declared bodies made = record {
+  version = version;
   names = declared.names;
   declarations = declared.declarations;
   bodies = bodies;
@@ -101,18 +104,19 @@ script_by parts declared bodies made = record {
   first_domain = first_place parts.behind;
 }
 
-abbrev pub script_of_parts : Parts → Result Script ScriptFault
-script_of_parts parts = read_parts parts nothing_made >>= λ found. Ok (script_by parts found.0.0 found.0.1 found.1)
+abbrev pub script_of_parts : (version : ℕ) → Parts → Result Script ScriptFault
+script_of_parts version parts = read_parts (limits_of version) parts nothing_made >>= λ found. Ok (script_by version parts found.0.0 found.0.1 found.1)
 
-abbrev pub is_one : ℤ → Bool
-is_one (pos n) = n == 1
-is_one (negsuc n) = false
+-- the version that a number stands for: 1 is the only one that is read
+abbrev pub version_of : ℤ → Option ℕ
+version_of (pos n) = elim (n == 1) [ true ↦ Some n | false ↦ None ]
+version_of (negsuc n) = None
 
--- the root's items behind `eio`. A root without a version or a `main` is refused, and then a version other than 1
+-- the root's items behind `eio`. A root without a version or a `main` is refused, and then a number that stands for no version
 abbrev pub root_of : (at : ℕ) → Trees → Result Script ScriptFault
-root_of at (And (Number place version) row) = elim (parts_of row) [
+root_of at (And (Number place number) row) = elim (parts_of row) [
   | None ↦ Err (Shape at)
-  | Some parts ↦ elim (is_one version) [ false ↦ Err (Shape place) | true ↦ script_of_parts parts ]
+  | Some parts ↦ elim (version_of number) [ None ↦ Err (Shape place) | Some version ↦ script_of_parts version parts ]
 ]
 root_of at row = Err (Shape at)
 

@@ -1,7 +1,7 @@
 //! What the notation means: which bytes spell which tree, which trees are scripts, which words are commands, and how
 //! a refusal is written.
 //!
-//! Everything is defined in `specs/`, on plain lists and numbers, and computes. This file has the small enums that
+//! Everything is defined in `specs/`, on plain lists and numbers, and computes. This file has the small types that
 //! the definitions share with code.
 #![tactic(auto)]
 
@@ -76,4 +76,19 @@ pub enum Feature {
     Folders,
     /// The second version of the notation; the command `migrate`.
     Versions,
+}
+
+/// How many of a thing the scripts of a version of the notation may have, and their runs.
+#[derive(Clone, Copy)]
+pub struct Limits {
+    /// Declarations of a script.
+    pub declarations: u32,
+    /// Bodies of a script, main among them.
+    pub bodies: u32,
+    /// Fibers that live at once in a domain.
+    pub fibers: u32,
+    /// Contexts that live at once in a domain.
+    pub contexts: u32,
+    /// Jobs that an executor queues, for each body of the script.
+    pub jobs: u32,
 }

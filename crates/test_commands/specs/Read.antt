@@ -1,6 +1,7 @@
 -- What an input is as a tree and as a script, in the words in which rows ask for it. Each opens the definitions by which it is computed.
 use Rattle.std.specs.Prelude.{ℕ, List, [], Option, Some, None, Result, Ok, Err}
 use Rattle.std.specs.Fmt.{digits}
+use Rattle.spec_script.specs.Limits.{limits_of}
 use Rattle.spec_script.specs.Reading.{past_gap, text_items, run_tree, trees_by, tree_at, reading}
 use Rattle.spec_script.specs.Canonical.{canonical, document}
 use Rattle.spec_script.specs.Trees.{Tree}
@@ -32,7 +33,7 @@ unfolding tree canonical document digits
 respelled bytes = elim (tree bytes) [ Ok it ↦ document it | Err e ↦ [] ]
 
 unfoldable pub script : List ℕ → Result Script Refusal
-unfolding tree input_tree bring used directory_of form_of item traced captured_behind statements steps entries workers declaration declarations_behind domains script_of input_script
+unfolding tree input_tree bring used directory_of form_of item traced captured_behind statements steps entries workers declaration declarations_behind limits_of domains script_of input_script
 script bytes = input_script bytes
 
 -- what is so of the script, where there is one

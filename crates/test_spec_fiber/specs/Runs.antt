@@ -1,5 +1,6 @@
 -- Main of a script as a fiber of its own. The table of texts begins as the script's own, and raises are numbered from 0.
 use Rattle.std.specs.Prelude.{ℕ, List, [], ◌∷◌, Option, Some, None, Ok, Err}
+use Rattle.spec_script.specs.Limits.{limits_of}
 use Rattle.spec_script.specs.Reading.{past_gap, text_items, run_tree, trees_by, tree_at, reading}
 use Rattle.spec_script.specs.Syntax.{Block, Begins, Done}
 use Rattle.spec_script.specs.Scopes.{bring, used, directory_of}
@@ -20,7 +21,7 @@ use Rattle.spec_fiber.specs.Replies.{begun}
 use Rattle.test_spec_fiber.specs.Replied.{Reply, settled, calls_from, carried_from}
 
 unfoldable pub script : List ℕ → Option Script
-unfolding past_gap text_items run_tree trees_by tree_at reading bring used directory_of form_of item traced captured_behind read_statements steps entries workers declaration declarations_behind domains script_of
+unfolding past_gap text_items run_tree trees_by tree_at reading bring used directory_of form_of item traced captured_behind read_statements steps entries workers declaration declarations_behind limits_of domains script_of
 script bytes = elim (reading bytes) [ Err e ↦ None | Ok tree ↦ elim (script_of tree) [ Err e ↦ None | Ok it ↦ Some it ] ]
 
 abbrev pub main_in : List Block → Block

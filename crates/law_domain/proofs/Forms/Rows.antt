@@ -11,6 +11,7 @@ use Rattle.spec_script.specs.Expressions.{item, traced}
 use Rattle.spec_script.specs.Features.{Built}
 use Rattle.spec_script.specs.FlowSteps.{steps}
 use Rattle.spec_script.specs.Forms.{form_of}
+use Rattle.spec_script.specs.Limits.{limits_of}
 use Rattle.spec_script.specs.Inputs.{input_script}
 use Rattle.spec_script.specs.Reading.{past_gap, text_items, run_tree, trees_by, tree_at, reading}
 use Rattle.spec_script.specs.RefusedForms.{unbuilt}
@@ -24,7 +25,7 @@ use Rattle.law_domain.specs.Forms.Laws.{with_groups}
 
 -- the script of an input
 unfoldable script : List ℕ → Result Script Refusal
-unfolding past_gap text_items run_tree trees_by tree_at reading input_tree bring used directory_of form_of item traced captured_behind statements steps entries workers declaration declarations_behind domains script_of input_script
+unfolding past_gap text_items run_tree trees_by tree_at reading input_tree bring used directory_of form_of item traced captured_behind statements steps entries workers declaration declarations_behind limits_of domains script_of input_script
 script bytes = input_script bytes
 
 -- its first form that isn't built

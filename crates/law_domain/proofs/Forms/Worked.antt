@@ -7,6 +7,7 @@ use Rattle.spec_script.specs.Entries.{entries}
 use Rattle.spec_script.specs.Expressions.{item, traced}
 use Rattle.spec_script.specs.FlowSteps.{steps}
 use Rattle.spec_script.specs.Forms.{form_of}
+use Rattle.spec_script.specs.Limits.{limits_of}
 use Rattle.spec_script.specs.Inputs.{input_script, mocked_script}
 use Rattle.spec_script.specs.Reading.{past_gap, text_items, run_tree, trees_by, tree_at, reading}
 use Rattle.spec_script.specs.Refusals.{input_tree}
@@ -40,11 +41,11 @@ script = record {
 }
 
 it_stands_for_it : script_of tree ≡ Ok script
-unfolding bring used directory_of form_of item traced captured_behind statements steps entries workers declaration declarations_behind domains script_of
+unfolding bring used directory_of form_of item traced captured_behind statements steps entries workers declaration declarations_behind limits_of domains script_of
 it_stands_for_it = refl
 
 mock_runs_it : mocked_script with_groups bytes ≡ Ok script
-unfolding past_gap text_items run_tree trees_by tree_at reading input_tree bring used directory_of form_of item traced captured_behind statements steps entries workers declaration declarations_behind domains script_of input_script mocked_script
+unfolding past_gap text_items run_tree trees_by tree_at reading input_tree bring used directory_of form_of item traced captured_behind statements steps entries workers declaration declarations_behind limits_of domains script_of input_script mocked_script
 mock_runs_it = refl
 
 -- ## Any list

@@ -10,6 +10,7 @@ use Rattle.spec_script.specs.Expressions.{item, traced}
 use Rattle.spec_script.specs.Features.{all_built}
 use Rattle.spec_script.specs.FlowSteps.{steps}
 use Rattle.spec_script.specs.Forms.{form_of}
+use Rattle.spec_script.specs.Limits.{limits_of}
 use Rattle.spec_script.specs.Inputs.{input_script, mocked_script}
 use Rattle.spec_script.specs.Reading.{past_gap, text_items, run_tree, trees_by, tree_at, reading}
 use Rattle.spec_script.specs.Refusals.{input_tree}
@@ -29,7 +30,7 @@ use Rattle.spec_machine.specs.Trace.{run}
 use Rattle.law_domain.specs.Sound.Scopes.{Entered, InContext, InSwitch, InGroup, scopes}
 
 unfoldable scopes_after : (moves : ℕ) → (script : String) → List (List Entered)
-unfolding past_gap text_items run_tree trees_by tree_at reading input_tree bring used directory_of form_of item traced captured_behind statements steps entries workers declaration declarations_behind domains script_of input_script mocked_script way_within value_of values_of block_numbered blocks_from silent.statements settling.answered branched own_call prepared waiting_from move moves run
+unfolding past_gap text_items run_tree trees_by tree_at reading input_tree bring used directory_of form_of item traced captured_behind statements steps entries workers declaration declarations_behind limits_of domains script_of input_script mocked_script way_within value_of values_of block_numbered blocks_from silent.statements settling.answered branched own_call prepared waiting_from move moves run
 scopes_after n script = elim (mocked_script all_built (codes script)) [
   | Ok it ↦ map scopes (run it n).last.local.fibers
   | Err refusal ↦ []

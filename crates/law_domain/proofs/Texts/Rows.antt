@@ -18,6 +18,7 @@ use Rattle.spec_script.specs.Expressions.{item, traced}
 use Rattle.spec_script.specs.FlowSteps.{steps}
 use Rattle.spec_script.specs.Forms.{form_of}
 use Rattle.spec_script.specs.Opening.{textless, exceptions_of, opening_texts}
+use Rattle.spec_script.specs.Limits.{limits_of}
 use Rattle.spec_script.specs.Scopes.{bring, used, directory_of}
 use Rattle.spec_script.specs.Scripts.{Script, domains, script_of}
 use Rattle.spec_script.specs.Statements as reading
@@ -177,7 +178,7 @@ raises = record script {
 }
 
 it_is_read : script_of raising ≡ Ok raises
-unfolding bring used directory_of form_of item traced captured_behind reading.statements steps entries workers declaration declarations_behind domains script_of
+unfolding bring used directory_of form_of item traced captured_behind reading.statements steps entries workers declaration declarations_behind limits_of domains script_of
 it_is_read = refl
 
 it_has_its_texts : HasItsTexts raises

@@ -1,6 +1,7 @@
 -- An input whose script both commands run, so that the premises of the laws can be met. It has a stream and a job.
 use Rattle.std.proofs.Common.{◌≡◌, ℕ, List, Result, Ok, Err, refl, sym, ap}
 use Rattle.std.specs.Prelude.{codes}
+use Rattle.spec_script.specs.Limits.{limits_of}
 use Rattle.spec_script.specs.Reading.{past_gap, text_items, run_tree, trees_by, tree_at, reading}
 use Rattle.spec_script.specs.Refusals.{Refusal, input_tree}
 use Rattle.spec_script.specs.Scopes.{bring, used, directory_of}
@@ -27,7 +28,7 @@ the_one (Ok a) (Err f) e = absurd e
 the_one (Err f) b e = absurd e
 
 both_run : AreOne (mocked_script all_built input) (shared_script all_built input)
-unfolding past_gap text_items run_tree trees_by tree_at reading input_tree bring used directory_of form_of item traced captured_behind statements workers declaration declarations_behind domains script_of input_script mocked_script shared_script
+unfolding past_gap text_items run_tree trees_by tree_at reading input_tree bring used directory_of form_of item traced captured_behind statements workers declaration declarations_behind limits_of domains script_of input_script mocked_script shared_script
 both_run = refl
 
 pub worked_input : (script : Script) × (mocked_script all_built input ≡ Ok script) × (shared_script all_built input ≡ Ok script)

@@ -11,11 +11,12 @@ use Rattle.spec_script.specs.Entries.{entries, entry, entry_by, entry_head, Entr
 use Rattle.spec_script.specs.Faults.{ScriptFault, Shape, Size, Twice, Name}
 use Rattle.spec_script.specs.FlowSteps.{StepHead, DataHead, FaultHead, PauseHead, data_of, step_by, step_head, step, steps}
 use Rattle.spec_script.specs.Kinds.{Kind, StreamKind, PromiseKind, SemaphoreKind, MutexKind, PoolKind, ExecutorKind, FlowKind, DirectoryKind}
-use Rattle.spec_script.specs.Limits.{capacities, counts, sizes, most_workers, most_declarations, most_flow_steps, most_entries, most_bodies}
+use Rattle.spec_script.specs.declared.Limits.{Limits}
+use Rattle.spec_script.specs.Limits.{capacities, counts, sizes, limits_of, most_workers, most_flow_steps, most_entries}
 use Rattle.spec_script.specs.Reads.{Formed, Made, nothing_made, Reads, ◌>>>◌, gives, refuses, requires_that, one_step, one_entry}
 use Rattle.spec_script.specs.Results.{◌>>=◌}
 use Rattle.spec_script.specs.Scopes.{named_in}
-use Rattle.spec_script.specs.Scripts.{Script, Parts, items_behind, with_first, parts_of, domains_in, bodies_of, body_scope, body, domains, first_place, read_parts, script_by, script_of_parts, is_one, root_of, script_of}
+use Rattle.spec_script.specs.Scripts.{Script, Parts, items_behind, with_first, parts_of, domains_in, bodies_of, body_scope, body, domains, first_place, read_parts, script_by, script_of_parts, version_of, root_of, script_of}
 use Rattle.spec_script.specs.Syntax.{Block}
 use Rattle.spec_script.specs.Trees.{Tree, Word, Number, Text, Branch, Trees, Nil, And, place_of}
 use Rattle.law_script.specs.Trees.Places.{bare, bare_row}
@@ -148,30 +149,30 @@ declare_alike before kind (Number at z) r s rs = refused (Shape at)
 declare_alike before kind (Text at text) r s rs = refused (Shape at)
 declare_alike before kind (Branch at row) r s rs = refused (Shape at)
 
-declaration_by_alike : (before : Declared) (at : ℕ) (form : DeclarationForm) (tree : Tree) (r s : Option (Reads Declaration)) → MaybeAlike r s → Alike (declaration_by before at form tree r) (declaration_by before 0 form (bare tree) s)
-declaration_by_alike before at form tree None None rs = refused (Shape at)
-declaration_by_alike before at form tree None (Some s) rs = absurd rs
-declaration_by_alike before at form tree (Some r) None rs = absurd rs
-declaration_by_alike before at form tree (Some r) (Some s) rs =
-    behind (required (nat_lt (length before.declarations) most_declarations) (Size at)) (λ a. behind (form_one at form.feature form.mocked) (λ b. declare_alike before form.kind tree r s rs))
+declaration_by_alike : (limits : Limits) (before : Declared) (at : ℕ) (form : DeclarationForm) (tree : Tree) (r s : Option (Reads Declaration)) → MaybeAlike r s → Alike (declaration_by limits before at form tree r) (declaration_by limits before 0 form (bare tree) s)
+declaration_by_alike limits before at form tree None None rs = refused (Shape at)
+declaration_by_alike limits before at form tree None (Some s) rs = absurd rs
+declaration_by_alike limits before at form tree (Some r) None rs = absurd rs
+declaration_by_alike limits before at form tree (Some r) (Some s) rs =
+    behind (required (nat_lt (length before.declarations) limits.declarations) (Size at)) (λ a. behind (form_one at form.feature form.mocked) (λ b. declare_alike before form.kind tree r s rs))
 
-declaration_alike : (bodies : ℕ) (before : Declared) (tree : Tree) → Alike (declaration bodies before tree) (declaration bodies before (bare tree))
+declaration_alike : (limits : Limits) (bodies : ℕ) (before : Declared) (tree : Tree) → Alike (declaration limits bodies before tree) (declaration limits bodies before (bare tree))
 unfolding bare bare_row declaration
-declaration_alike bodies before (Branch at (And (Word place word) (And name items))) =
-    if_form _ _ _ _ (declaration_form_of word) (refused (Shape at)) (λ form. declaration_by_alike before at form name (items_of form.kind bodies items) (items_of form.kind bodies (bare_row items)) (items_alike form.kind bodies items))
-declaration_alike bodies before (Branch at (And (Word place word) Nil)) = refused (Shape at)
-declaration_alike bodies before (Branch at Nil) = refused (Shape at)
-declaration_alike bodies before (Branch at (And (Number place z) items)) = refused (Shape at)
-declaration_alike bodies before (Branch at (And (Text place text) items)) = refused (Shape at)
-declaration_alike bodies before (Branch at (And (Branch place row) items)) = refused (Shape at)
-declaration_alike bodies before (Word at word) = refused (Shape at)
-declaration_alike bodies before (Number at z) = refused (Shape at)
-declaration_alike bodies before (Text at text) = refused (Shape at)
+declaration_alike limits bodies before (Branch at (And (Word place word) (And name items))) =
+    if_form _ _ _ _ (declaration_form_of word) (refused (Shape at)) (λ form. declaration_by_alike limits before at form name (items_of form.kind bodies items) (items_of form.kind bodies (bare_row items)) (items_alike form.kind bodies items))
+declaration_alike limits bodies before (Branch at (And (Word place word) Nil)) = refused (Shape at)
+declaration_alike limits bodies before (Branch at Nil) = refused (Shape at)
+declaration_alike limits bodies before (Branch at (And (Number place z) items)) = refused (Shape at)
+declaration_alike limits bodies before (Branch at (And (Text place text) items)) = refused (Shape at)
+declaration_alike limits bodies before (Branch at (And (Branch place row) items)) = refused (Shape at)
+declaration_alike limits bodies before (Word at word) = refused (Shape at)
+declaration_alike limits bodies before (Number at z) = refused (Shape at)
+declaration_alike limits bodies before (Text at text) = refused (Shape at)
 
-declarations_alike : (bodies : ℕ) (before : Declared) (row : Trees) → Alike (declarations_behind bodies before row) (declarations_behind bodies before (bare_row row))
+declarations_alike : (limits : Limits) (bodies : ℕ) (before : Declared) (row : Trees) → Alike (declarations_behind limits bodies before row) (declarations_behind limits bodies before (bare_row row))
 unfolding bare_row declarations_behind
-declarations_alike bodies before Nil = given before
-declarations_alike bodies before (And tree row) = behind (declaration_alike bodies before tree) (λ more. declarations_alike bodies more row)
+declarations_alike limits bodies before Nil = given before
+declarations_alike limits bodies before (And tree row) = behind (declaration_alike limits bodies before tree) (λ more. declarations_alike limits bodies more row)
 
 -- ## The parts of a root
 
@@ -238,31 +239,31 @@ room_at b (Branch at row) = required b (Size at)
 body_alike : (declared : Declared) (row : Trees) → Alike (body declared row) (body declared (bare_row row))
 body_alike declared row = block_of_alike (statements_alike (body_scope declared) row)
 
-abbrev domains_by : Declared → ℕ → Tree → Trees → Option Trees → Reads (List Block)
-domains_by declared n tree row found = elim found [
+abbrev domains_by : Limits → Declared → ℕ → Tree → Trees → Option Trees → Reads (List Block)
+domains_by limits declared n tree row found = elim found [
   | None ↦ refuses (Shape (place_of tree))
-  | Some items ↦ (requires_that (nat_lt n most_bodies) (Size (place_of tree)) >>> λ _. body declared items >>> λ first. domains declared (n + 1) row >>> λ others. gives (first ∷ others))
+  | Some items ↦ (requires_that (nat_lt n limits.bodies) (Size (place_of tree)) >>> λ _. body declared items >>> λ first. domains limits declared (n + 1) row >>> λ others. gives (first ∷ others))
 ]
 
-domains_alike : (declared : Declared) (n : ℕ) (row : Trees) → Alike (domains declared n row) (domains declared n (bare_row row))
+domains_alike : (limits : Limits) (declared : Declared) (n : ℕ) (row : Trees) → Alike (domains limits declared n row) (domains limits declared n (bare_row row))
 unfolding bare_row domains
-domains_alike declared n Nil = given []
-domains_alike declared n (And tree row) =
-    subst (λ found. Alike (domains_by declared n tree row (items_behind (codes "domain") tree)) (domains_by declared n (bare tree) (bare_row row) found)) (sym (items_behind_alike (codes "domain") tree))
-    (by (items_behind (codes "domain") tree) (domains_alike declared (n + 1) row))
+domains_alike limits declared n Nil = given []
+domains_alike limits declared n (And tree row) =
+    subst (λ found. Alike (domains_by limits declared n tree row (items_behind (codes "domain") tree)) (domains_by limits declared n (bare tree) (bare_row row) found)) (sym (items_behind_alike (codes "domain") tree))
+    (by (items_behind (codes "domain") tree) (domains_alike limits declared (n + 1) row))
   where
-    by : (found : Option Trees) → Alike (domains declared (n + 1) row) (domains declared (n + 1) (bare_row row)) → Alike (domains_by declared n tree row found) (domains_by declared n (bare tree) (bare_row row) (option_map bare_row found))
+    by : (found : Option Trees) → Alike (domains limits declared (n + 1) row) (domains limits declared (n + 1) (bare_row row)) → Alike (domains_by limits declared n tree row found) (domains_by limits declared n (bare tree) (bare_row row) (option_map bare_row found))
     by None rest = refused_at tree
-    by (Some items) rest = behind (room_at (nat_lt n most_bodies) tree) (λ a. behind (body_alike declared items) (λ first. behind rest (λ others. given (first ∷ others))))
+    by (Some items) rest = behind (room_at (nat_lt n limits.bodies) tree) (λ a. behind (body_alike declared items) (λ first. behind rest (λ others. given (first ∷ others))))
 
-abbrev read_by : (bodies : ℕ) → Parts → Reads (Declared × List Block)
-read_by bodies parts =
-    declarations_behind bodies nothing_declared parts.before >>> λ declared. body declared parts.main >>> λ main. domains declared 1 parts.behind >>> λ others. gives (declared, main ∷ others)
+abbrev read_by : Limits → (bodies : ℕ) → Parts → Reads (Declared × List Block)
+read_by limits bodies parts =
+    declarations_behind limits bodies nothing_declared parts.before >>> λ declared. body declared parts.main >>> λ main. domains limits declared 1 parts.behind >>> λ others. gives (declared, main ∷ others)
 
-read_alike : (parts : Parts) → Alike (read_parts parts) (read_parts (bare_parts parts))
-read_alike parts =
-    subst (λ bodies. Alike (read_parts parts) (read_by bodies (bare_parts parts))) (ap (λ n. n + 1) (sym (domains_in_alike parts.behind)))
-    (behind (declarations_alike (bodies_of parts) nothing_declared parts.before) (λ declared. behind (body_alike declared parts.main) (λ main. behind (domains_alike declared 1 parts.behind) (λ others. given (declared, main ∷ others)))))
+read_alike : (limits : Limits) (parts : Parts) → Alike (read_parts limits parts) (read_parts limits (bare_parts parts))
+read_alike limits parts =
+    subst (λ bodies. Alike (read_parts limits parts) (read_by limits bodies (bare_parts parts))) (ap (λ n. n + 1) (sym (domains_in_alike parts.behind)))
+    (behind (declarations_alike limits (bodies_of parts) nothing_declared parts.before) (λ declared. behind (body_alike declared parts.main) (λ main. behind (domains_alike limits declared 1 parts.behind) (λ others. given (declared, main ∷ others)))))
 
 -- ## Scripts
 
@@ -282,37 +283,38 @@ unfolding bare_row
 place_once Nil = refl
 place_once (And tree row) = refl
 
-script_parts_alike : (parts : Parts) → ReadAlike (script_of_parts parts) (script_of_parts (bare_parts parts))
-script_parts_alike parts = by (read_parts parts nothing_made) ((read_alike parts).same nothing_made)
+script_parts_alike : (version : ℕ) (parts : Parts) → ReadAlike (script_of_parts version parts) (script_of_parts version (bare_parts parts))
+script_parts_alike version parts = by (read_parts (limits_of version) parts nothing_made) ((read_alike (limits_of version) parts).same nothing_made)
   where
-    by : (found : Result ((Declared × List Block) × Made) ScriptFault) → bare_result found ≡ read_parts (bare_parts parts) nothing_made
-        → ReadAlike (found >>= λ found. Ok (script_by parts found.0.0 found.0.1 found.1)) (read_parts (bare_parts parts) nothing_made >>= λ found. Ok (script_by (bare_parts parts) found.0.0 found.0.1 found.1))
+    by : (found : Result ((Declared × List Block) × Made) ScriptFault) → bare_result found ≡ read_parts (limits_of version) (bare_parts parts) nothing_made
+        → ReadAlike (found >>= λ found. Ok (script_by version parts found.0.0 found.0.1 found.1)) (read_parts (limits_of version) (bare_parts parts) nothing_made >>= λ found. Ok (script_by version (bare_parts parts) found.0.0 found.0.1 found.1))
     by (Ok found) e =
-        subst (λ (y : Result ((Declared × List Block) × Made) ScriptFault). ReadAlike (Ok (script_by parts found.0.0 found.0.1 found.1)) (y >>= λ found. Ok (script_by (bare_parts parts) found.0.0 found.0.1 found.1))) e
+        subst (λ (y : Result ((Declared × List Block) × Made) ScriptFault). ReadAlike (Ok (script_by version parts found.0.0 found.0.1 found.1)) (y >>= λ found. Ok (script_by version (bare_parts parts) found.0.0 found.0.1 found.1))) e
         (record {
-          meaning = record { names = refl; declarations = refl; bodies = refl; texts = refl; failures = refl };
+          meaning = record { version = refl; names = refl; declarations = refl; bodies = refl; texts = refl; failures = refl };
           formed = bare_once found.1.formed;
           first_domain = place_once parts.behind;
         })
     by (Err fault) e =
-        subst (λ (y : Result ((Declared × List Block) × Made) ScriptFault). ReadAlike (Err fault) (y >>= λ found. Ok (script_by (bare_parts parts) found.0.0 found.0.1 found.1))) e (bare_reason fault)
+        subst (λ (y : Result ((Declared × List Block) × Made) ScriptFault). ReadAlike (Err fault) (y >>= λ found. Ok (script_by version (bare_parts parts) found.0.0 found.0.1 found.1))) e (bare_reason fault)
 
 abbrev root_by : (at place : ℕ) → ℤ → Option Parts → Result Script ScriptFault
-root_by at place version found = elim found [ None ↦ Err (Shape at) | Some parts ↦ elim (is_one version) [ false ↦ Err (Shape place) | true ↦ script_of_parts parts ] ]
+root_by at place number found = elim found [ None ↦ Err (Shape at) | Some parts ↦ elim (version_of number) [ None ↦ Err (Shape place) | Some version ↦ script_of_parts version parts ] ]
 
-version_alike : (place : ℕ) (one : Bool) (parts : Parts)
-    → ReadAlike (elim one as (λ _. Result Script ScriptFault) [ false ↦ Err (Shape place) | true ↦ script_of_parts parts ]) (elim one as (λ _. Result Script ScriptFault) [ false ↦ Err (Shape 0) | true ↦ script_of_parts (bare_parts parts) ])
-version_alike place false parts = refl
-version_alike place true parts = script_parts_alike parts
+version_alike : (place : ℕ) (found : Option ℕ) (parts : Parts)
+    → ReadAlike (elim found as (λ _. Result Script ScriptFault) [ None ↦ Err (Shape place) | Some version ↦ script_of_parts version parts ])
+    (elim found as (λ _. Result Script ScriptFault) [ None ↦ Err (Shape 0) | Some version ↦ script_of_parts version (bare_parts parts) ])
+version_alike place None parts = refl
+version_alike place (Some version) parts = script_parts_alike version parts
 
-root_by_alike : (at other place : ℕ) (version : ℤ) (found : Option Parts) → ReadAlike (root_by at place version found) (root_by other 0 version (option_map bare_parts found))
-root_by_alike at other place version None = refl
-root_by_alike at other place version (Some parts) = version_alike place (is_one version) parts
+root_by_alike : (at other place : ℕ) (number : ℤ) (found : Option Parts) → ReadAlike (root_by at place number found) (root_by other 0 number (option_map bare_parts found))
+root_by_alike at other place number None = refl
+root_by_alike at other place number (Some parts) = version_alike place (version_of number) parts
 
 root_alike : (at other : ℕ) (row : Trees) → ReadAlike (root_of at row) (root_of other (bare_row row))
 unfolding bare bare_row
-root_alike at other (And (Number place version) row) =
-    subst (λ found. ReadAlike (root_by at place version (parts_of row)) (root_by other 0 version found)) (sym (parts_alike row)) (root_by_alike at other place version (parts_of row))
+root_alike at other (And (Number place number) row) =
+    subst (λ found. ReadAlike (root_by at place number (parts_of row)) (root_by other 0 number found)) (sym (parts_alike row)) (root_by_alike at other place number (parts_of row))
 root_alike at other Nil = refl
 root_alike at other (And (Word place word) row) = refl
 root_alike at other (And (Text place text) row) = refl
@@ -333,6 +335,7 @@ bare_is_alike tree =
 
 same_meaning : (a b c : Script) → MeanTheSame a c → MeanTheSame b c → MeanTheSame a b
 same_meaning a b c f g = record {
+  version = f.version ∙ sym g.version;
   names = f.names ∙ sym g.names;
   declarations = f.declarations ∙ sym g.declarations;
   bodies = f.bodies ∙ sym g.bodies;

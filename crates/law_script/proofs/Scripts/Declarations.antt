@@ -11,7 +11,8 @@ use Rattle.spec_script.specs.Entries.{entries}
 use Rattle.spec_script.specs.Faults.{Shape, Size, Twice}
 use Rattle.spec_script.specs.FlowSteps.{steps}
 use Rattle.spec_script.specs.Kinds.{Kind, StreamKind, PromiseKind, SemaphoreKind, MutexKind, PoolKind, ExecutorKind, FlowKind, DirectoryKind}
-use Rattle.spec_script.specs.Limits.{most_declarations, most_workers, capacities, counts, sizes}
+use Rattle.spec_script.specs.declared.Limits.{Limits}
+use Rattle.spec_script.specs.Limits.{most_workers, capacities, counts, sizes}
 use Rattle.spec_script.specs.Reads.{Reads, refuses, one_form, interned}
 use Rattle.spec_script.specs.Scopes.{Named, named_in}
 use Rattle.spec_script.specs.Trees.{Tree, Word, Number, Branch, Trees, Nil, And, place_of}
@@ -71,15 +72,15 @@ items_are kind bodies row = tt
 -- ## Declarations
 
 -- the declarations so far
-pub record AreDeclared (bodies : ℕ) (so_far : Declared) : Type 0 where
+pub record AreDeclared (limits : Limits) (bodies : ℕ) (so_far : Declared) : Type 0 where
   pub names : length so_far.names ≡ length so_far.declarations
-  pub few : length so_far.declarations ≤ most_declarations
+  pub few : length so_far.declarations ≤ limits.declarations
   pub sound : Each (IsSoundDeclaration bodies) so_far.declarations
   pub scope : Each (IsDeclared (kinds_of so_far.declarations)) so_far.scope
 
-more_declared : (bodies : ℕ) (before : Declared) (kind : Kind) (name : List ℕ) (id : TextId) (it : Declaration) → AreDeclared bodies before
-    → length before.declarations < most_declarations → IsOfKind bodies kind it → AreDeclared bodies (with_declaration before kind name id it)
-more_declared bodies before kind name id it are room own =
+more_declared : (limits : Limits) (bodies : ℕ) (before : Declared) (kind : Kind) (name : List ℕ) (id : TextId) (it : Declaration) → AreDeclared limits bodies before
+    → length before.declarations < limits.declarations → IsOfKind bodies kind it → AreDeclared limits bodies (with_declaration before kind name id it)
+more_declared limits bodies before kind name id it are room own =
     let declarations = before.declarations in
     let longer : kinds_of (declarations ++ it ∷ []) ≡ kinds_of declarations ++ kind ∷ [] =
     map-append kind_of declarations (it ∷ []) ∙ ap (λ (k : Kind). kinds_of declarations ++ k ∷ []) own.0 in
@@ -100,36 +101,36 @@ more_declared bodies before kind name id it are room own =
           (each_so (IsDeclared (kinds_of declarations)) (IsDeclared (kinds_of declarations ++ kind ∷ [])) before.scope stays are.scope) ((own.1, own_place), tt));
     }
 
-declared_is : (bodies : ℕ) (before : Declared) (kind : Kind) → AreDeclared bodies before → length before.declarations < most_declarations
-    → (name : Tree) (items : Reads Declaration) → Gives (IsOfKind bodies kind) items → Gives (AreDeclared bodies) (declare before kind name items)
-declared_is bodies before kind are room (Word at name) items items_are =
+declared_is : (limits : Limits) (bodies : ℕ) (before : Declared) (kind : Kind) → AreDeclared limits bodies before → length before.declarations < limits.declarations
+    → (name : Tree) (items : Reads Declaration) → Gives (IsOfKind bodies kind) items → Gives (AreDeclared limits bodies) (declare before kind name items)
+declared_is limits bodies before kind are room (Word at name) items items_are =
     met (is_none (named_in before.scope name)) (Twice at) λ is_new. past (interned name) λ id.
-    going_on items_are λ it own. given (with_declaration before kind name id it) (more_declared bodies before kind name id it are room own)
-declared_is bodies before kind are room tree items items_are = refused (Shape (place_of tree))
+    going_on items_are λ it own. given (with_declaration before kind name id it) (more_declared limits bodies before kind name id it are room own)
+declared_is limits bodies before kind are room tree items items_are = refused (Shape (place_of tree))
 
-declaration_by_is : (bodies : ℕ) (before : Declared) → AreDeclared bodies before → (at : ℕ) (form : DeclarationForm) (name : Tree) (items : Option (Reads Declaration))
-    → IfSome items (Gives (IsOfKind bodies form.kind)) → Gives (AreDeclared bodies) (declaration_by before at form name items)
-declaration_by_is bodies before are at form name None own = refused (Shape at)
-declaration_by_is bodies before are at form name (Some items) own =
-    met (nat_lt (length before.declarations) most_declarations) (Size at) λ room. past (one_form at form.feature form.mocked) λ _.
-    declared_is bodies before form.kind are (ltb-true (length before.declarations) most_declarations room) name items own
+declaration_by_is : (limits : Limits) (bodies : ℕ) (before : Declared) → AreDeclared limits bodies before → (at : ℕ) (form : DeclarationForm) (name : Tree) (items : Option (Reads Declaration))
+    → IfSome items (Gives (IsOfKind bodies form.kind)) → Gives (AreDeclared limits bodies) (declaration_by limits before at form name items)
+declaration_by_is limits bodies before are at form name None own = refused (Shape at)
+declaration_by_is limits bodies before are at form name (Some items) own =
+    met (nat_lt (length before.declarations) limits.declarations) (Size at) λ room. past (one_form at form.feature form.mocked) λ _.
+    declared_is limits bodies before form.kind are (ltb-true (length before.declarations) limits.declarations room) name items own
 
-declaration_is : (bodies : ℕ) (before : Declared) → AreDeclared bodies before → (tree : Tree) → Gives (AreDeclared bodies) (declaration bodies before tree)
+declaration_is : (limits : Limits) (bodies : ℕ) (before : Declared) → AreDeclared limits bodies before → (tree : Tree) → Gives (AreDeclared limits bodies) (declaration limits bodies before tree)
 unfolding declaration
-declaration_is bodies before are (Branch at (And (Word place word) (And name items))) = by (declaration_form_of word)
+declaration_is limits bodies before are (Branch at (And (Word place word) (And name items))) = by (declaration_form_of word)
   where
-    by : (found : Option DeclarationForm) → Gives (AreDeclared bodies) (elim found [
+    by : (found : Option DeclarationForm) → Gives (AreDeclared limits bodies) (elim found [
       | None ↦ refuses (Shape at)
-      | Some form ↦ declaration_by before at form name (items_of form.kind bodies items)
+      | Some form ↦ declaration_by limits before at form name (items_of form.kind bodies items)
     ])
     by None = refused (Shape at)
-    by (Some form) = declaration_by_is bodies before are at form name (items_of form.kind bodies items) (items_are form.kind bodies items)
-declaration_is bodies before are tree = refused (Shape (place_of tree))
+    by (Some form) = declaration_by_is limits bodies before are at form name (items_of form.kind bodies items) (items_are form.kind bodies items)
+declaration_is limits bodies before are tree = refused (Shape (place_of tree))
 
-pub declarations_are : (bodies : ℕ) (before : Declared) → AreDeclared bodies before → (row : Trees) → Gives (AreDeclared bodies) (declarations_behind bodies before row)
+pub declarations_are : (limits : Limits) (bodies : ℕ) (before : Declared) → AreDeclared limits bodies before → (row : Trees) → Gives (AreDeclared limits bodies) (declarations_behind limits bodies before row)
 unfolding declarations_behind
-declarations_are bodies before are Nil = given before are
-declarations_are bodies before are (And tree row) = going_on (declaration_is bodies before are tree) λ more more_are. declarations_are bodies more more_are row
+declarations_are limits bodies before are Nil = given before are
+declarations_are limits bodies before are (And tree row) = going_on (declaration_is limits bodies before are tree) λ more more_are. declarations_are limits bodies more more_are row
 
-pub none_declared : (bodies : ℕ) → AreDeclared bodies nothing_declared
-none_declared bodies = record { names = refl; few = omega arith; sound = tt; scope = tt }
+pub none_declared : (limits : Limits) (bodies : ℕ) → AreDeclared limits bodies nothing_declared
+none_declared limits bodies = record { names = refl; few = omega arith; sound = tt; scope = tt }

@@ -5,6 +5,7 @@ use Rattle.spec_script.specs.declared.Feature.TheVariants.{FirstForms, StreamsAn
 use Rattle.spec_script.specs.Declarations.{declaration, declarations_behind}
 use Rattle.spec_script.specs.Faults.{ScriptFault}
 use Rattle.spec_script.specs.Generator.{word, branch, row_of, generated_fork, generated_forks, generated_taker, generated}
+use Rattle.spec_script.specs.Limits.{limits_of}
 use Rattle.spec_script.specs.Kinds.{SwitchKind, StreamKind}
 use Rattle.spec_script.specs.Reads.{Made}
 use Rattle.spec_script.specs.Scopes.{Scope, bring, used}
@@ -90,7 +91,7 @@ at_the_switch = record {
 }
 
 pub generated_is_read : (n : ℕ) → IsScript (generated n)
-unfolding generated script_of declaration declarations_behind domains statements statement value block form form_of bring used item operation traced
+unfolding generated script_of declaration declarations_behind limits_of domains statements statement value block form form_of bring used item operation traced
 generated_is_read n =
     let inner = forks_read n 0 (2 * n) at_the_switch in
     let whole = given (script_of (generated n)) (rw inner.is refl) in

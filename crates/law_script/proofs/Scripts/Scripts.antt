@@ -1,19 +1,20 @@
 -- Scripts that are read are sound (`read_scripts_are_sound`).
-use Rattle.std.proofs.Common.{◌≡◌, ℕ, zero, suc, ◌+◌, ◌<◌, ◌≤◌, Bool, true, false, List, [], ◌∷◌, length, Option, Some, None, Result, Ok, Err, refl, sym, ap, subst, arith}
-use Rattle.std.specs.Prelude.{nat_le, nat_lt, is_some, option_map, codes, IfSome, All}
+use Rattle.std.proofs.Common.{◌≡◌, ℕ, zero, suc, ◌+◌, ◌<◌, ◌≤◌, Bool, true, false, List, [], ◌∷◌, length, Option, Some, None, Result, Ok, Err, refl, sym, ap, subst, ◌∙◌, arith}
+use Rattle.std.specs.Prelude.{nat_le, nat_lt, is_some, option_map, ◌==◌, ℤ, pos, negsuc, codes, IfSome, All}
 use Rattle.std.specs.List.{AllByRecursion as Each}
 use Rattle.std.specs.Str.{bytes_eq}
-use Rattle.std.proofs.lemmas.Bool.{ltb-true}
+use Rattle.std.proofs.lemmas.Bool.{ltb-true, eqb-true}
 use Rattle.std.proofs.lemmas.List.Elements.{All-from_recursion}
 use Rattle.spec_script.specs.Declarations.{Declared, nothing_declared}
 use Rattle.spec_script.specs.Faults.{ScriptFault, Shape, Size}
 use Rattle.spec_script.specs.Inputs.{input_script}
 use Rattle.spec_script.specs.Kinds.{Kind}
-use Rattle.spec_script.specs.Limits.{most_bodies, most_input_bytes, most_open_lists}
+use Rattle.spec_script.specs.declared.Limits.{Limits}
+use Rattle.spec_script.specs.Limits.{limits_of, most_input_bytes, most_open_lists}
 use Rattle.spec_script.specs.Reading.{reading}
 use Rattle.spec_script.specs.Reads.{Made, nothing_made, ◌>>>◌, gives, refuses, requires_that}
 use Rattle.spec_script.specs.Refusals.{Refusal, NoTree, NoScript, TooLong, or_refused, input_tree}
-use Rattle.spec_script.specs.Scripts.{Script, items_behind, Parts, with_first, parts_of, domains_in, bodies_of, body_scope, body, domains, read_parts, first_place, script_by, script_of_parts, is_one, root_of, script_of}
+use Rattle.spec_script.specs.Scripts.{Script, items_behind, Parts, with_first, parts_of, domains_in, bodies_of, body_scope, body, domains, read_parts, first_place, script_by, script_of_parts, version_of, root_of, script_of}
 use Rattle.spec_script.specs.Statements.{statements}
 use Rattle.spec_script.specs.Syntax.{Block}
 use Rattle.spec_script.specs.Trees.{Tree, Word, Number, Text, Branch, Trees, Nil, And, place_of}
@@ -23,7 +24,7 @@ use Rattle.law_script.proofs.Trees.Steps.{same_Ok, err-ok, both_gave}
 use Rattle.law_script.specs.Scripts.Numbers.{HasFittingNumbers, HaveFittingNumbers}
 use Rattle.law_script.specs.Scripts.Soundness.{in_body, kinds_of, IsSoundDeclaration, IsSoundBlock, IsSound}
 use Rattle.law_script.proofs.Scripts.Declarations.{AreDeclared, declarations_are, none_declared}
-use Rattle.law_script.proofs.Scripts.Lists.{none_some}
+use Rattle.law_script.proofs.Scripts.Lists.{none_some, same_Some}
 use Rattle.law_script.proofs.Scripts.Names.{IsDeclared}
 use Rattle.law_script.proofs.Scripts.Statements.{block_is_sound, statements_are_sound}
 use Rattle.law_script.proofs.Scripts.Steps.{Gives, given, refused, going_on, met}
@@ -71,48 +72,64 @@ body_is_sound kinds declared scope items numbers =
     (statements_are_sound (in_body kinds) (body_scope declared) (record { names = tt; declared = scope; next = refl }) items numbers)
 
 -- further bodies, and those before them are as many as may be at most; there are as many as are listed
-abbrev AreBodies : (kinds : List Kind) (before listed : ℕ) → List Block → Type 0
-AreBodies kinds before listed these = Each (IsBody kinds) these × (length these + before ≤ most_bodies) × (length these ≡ listed)
+abbrev AreBodies : Limits → (kinds : List Kind) (before listed : ℕ) → List Block → Type 0
+AreBodies limits kinds before listed these = Each (IsBody kinds) these × (length these + before ≤ limits.bodies) × (length these ≡ listed)
 
-domains_are : (kinds : List Kind) (declared : Declared) → Each (IsDeclared kinds) declared.scope → (n : ℕ) → n ≤ most_bodies → (row : Trees) → HaveFittingNumbers row
-    → Gives (AreBodies kinds n (domains_in row)) (domains declared n row)
+domains_are : (limits : Limits) (kinds : List Kind) (declared : Declared) → Each (IsDeclared kinds) declared.scope → (n : ℕ) → n ≤ limits.bodies → (row : Trees) → HaveFittingNumbers row
+    → Gives (AreBodies limits kinds n (domains_in row)) (domains limits declared n row)
 unfolding domains HaveFittingNumbers
-domains_are kinds declared scope n few Nil numbers = given [] (tt, omega (arith, few), refl)
-domains_are kinds declared scope n few (And tree row) numbers =
-    by (items_behind (codes "domain") tree) (items_fit (codes "domain") tree numbers.0) (λ more. domains_are kinds declared scope (n + 1) more row numbers.1)
+domains_are limits kinds declared scope n few Nil numbers = given [] (tt, omega (arith, few), refl)
+domains_are limits kinds declared scope n few (And tree row) numbers =
+    by (items_behind (codes "domain") tree) (items_fit (codes "domain") tree numbers.0) (λ more. domains_are limits kinds declared scope (n + 1) more row numbers.1)
   where
-    by : (found : Option Trees) → IfSome found HaveFittingNumbers → (n + 1 ≤ most_bodies → Gives (AreBodies kinds (n + 1) (domains_in row)) (domains declared (n + 1) row))
-        → Gives (AreBodies kinds n (elim (is_some found) [ true ↦ domains_in row + 1 | false ↦ domains_in row ])) (elim found [
+    by : (found : Option Trees) → IfSome found HaveFittingNumbers → (n + 1 ≤ limits.bodies → Gives (AreBodies limits kinds (n + 1) (domains_in row)) (domains limits declared (n + 1) row))
+        → Gives (AreBodies limits kinds n (elim (is_some found) [ true ↦ domains_in row + 1 | false ↦ domains_in row ])) (elim found [
           | None ↦ refuses (Shape (place_of tree))
           | Some items ↦
-              (requires_that (nat_lt n most_bodies) (Size (place_of tree)) >>> λ _.
+              (requires_that (nat_lt n limits.bodies) (Size (place_of tree)) >>> λ _.
               body declared items >>> λ first.
-              domains declared (n + 1) row >>> λ others.
+              domains limits declared (n + 1) row >>> λ others.
               gives (first ∷ others))
         ])
     by None fit rest = refused (Shape (place_of tree))
     by (Some items) fit rest =
-        met (nat_lt n most_bodies) (Size (place_of tree)) λ room.
-        let less : n < most_bodies = ltb-true n most_bodies room in
+        met (nat_lt n limits.bodies) (Size (place_of tree)) λ room.
+        let less : n < limits.bodies = ltb-true n limits.bodies room in
         going_on (body_is_sound kinds declared scope items fit) λ first sound.
         going_on (rest (omega (arith, less))) λ others are.
         let count = are.1 in
         let same = are.2 in
         given (first ∷ others) ((sound, are.0), omega (arith, count), omega (arith, same))
 
+-- ## Versions
+
+-- a script may have a main, whatever its version is
+one_body : (version : ℕ) → 1 ≤ (limits_of version).bodies
+unfolding limits_of
+one_body version = omega arith
+
+-- the version that is read is the first
+is_first : (number : ℤ) (version : ℕ) → version_of number ≡ Some version → version ≡ 1
+is_first (pos n) version e = by (n == 1) refl e
+  where
+    by : (one : Bool) → n == 1 ≡ one → ◌≡◌ {A = Option ℕ} (elim one [ true ↦ Some n | false ↦ None ]) (Some version) → version ≡ 1
+    by true one e = sym (same_Some n version e) ∙ eqb-true n 1 one
+    by false one e = absurd (none_some version e)
+is_first (negsuc n) version e = absurd (none_some version e)
+
 -- ## Scripts
 
 -- sound declarations and bodies
-abbrev AreParts : (bodies : ℕ) → Declared × List Block → Type 0
-AreParts bodies read =
-    AreDeclared bodies read.0 × Each (IsBody (kinds_of read.0.declarations)) read.1 × (length read.1 ≤ most_bodies) × (length read.1 ≡ bodies)
+abbrev AreParts : Limits → (bodies : ℕ) → Declared × List Block → Type 0
+AreParts limits bodies read =
+    AreDeclared limits bodies read.0 × Each (IsBody (kinds_of read.0.declarations)) read.1 × (length read.1 ≤ limits.bodies) × (length read.1 ≡ bodies)
 
-parts_are_sound : (parts : Parts) → PartsFit parts → Gives (AreParts (bodies_of parts)) (read_parts parts)
-parts_are_sound parts fit =
-    going_on (declarations_are (bodies_of parts) nothing_declared (none_declared (bodies_of parts)) parts.before) λ declared are.
+parts_are_sound : (limits : Limits) → 1 ≤ limits.bodies → (parts : Parts) → PartsFit parts → Gives (AreParts limits (bodies_of parts)) (read_parts limits parts)
+parts_are_sound limits one parts fit =
+    going_on (declarations_are limits (bodies_of parts) nothing_declared (none_declared limits (bodies_of parts)) parts.before) λ declared are.
     let kinds = kinds_of declared.declarations in
     going_on (body_is_sound kinds declared are.scope parts.main fit.1) λ main main_sound.
-    going_on (domains_are kinds declared are.scope 1 (omega arith) parts.behind fit.2) λ others others_are.
+    going_on (domains_are limits kinds declared are.scope 1 one parts.behind fit.2) λ others others_are.
     let count = others_are.1 in
     let same = others_are.2 in
     given (declared, main ∷ others) (are, (main_sound, others_are.0), omega (arith, count), omega (arith, same))
@@ -124,8 +141,10 @@ main_alone : (behind : Trees) (n : ℕ) → n ≡ domains_in behind + 1 → firs
 main_alone Nil n count none = count
 main_alone (And tree row) n count none = absurd (none_some (place_of tree) (sym none))
 
-sound_by : (parts : Parts) (declared : Declared) (bodies : List Block) (made : Made) → AreParts (bodies_of parts) (declared, bodies) → IsSound (script_by parts declared bodies made)
-sound_by parts declared bodies made are = record {
+sound_by : (version : ℕ) → version ≡ 1 → (parts : Parts) (declared : Declared) (bodies : List Block) (made : Made) → AreParts (limits_of version) (bodies_of parts) (declared, bodies)
+    → IsSound (script_by version parts declared bodies made)
+sound_by version is parts declared bodies made are = record {
+  version = is;
   names = are.0.names;
   few_declarations = are.0.few;
   declarations = subst (λ (n : ℕ). All (IsSoundDeclaration n) declared.declarations) (sym are.3) (All-from_recursion (IsSoundDeclaration (bodies_of parts)) declared.declarations are.0.sound);
@@ -135,25 +154,27 @@ sound_by parts declared bodies made are = record {
   bodies = All-from_recursion (IsBody (kinds_of declared.declarations)) bodies are.1;
 }
 
-parts_make_sound : (parts : Parts) → PartsFit parts → (script : Script) → script_of_parts parts ≡ Ok script → IsSound script
-parts_make_sound parts fit script e =
-    let both = both_gave (read_parts parts nothing_made) (λ found. Ok (script_by parts found.0.0 found.0.1 found.1)) script e in
-    subst IsSound (same_Ok _ _ both.2) (sound_by parts both.0.0.0 both.0.0.1 both.0.1 ((parts_are_sound parts fit).holds nothing_made both.0 both.1))
+parts_make_sound : (version : ℕ) → version ≡ 1 → (parts : Parts) → PartsFit parts → (script : Script) → script_of_parts version parts ≡ Ok script → IsSound script
+parts_make_sound version is parts fit script e =
+    let limits = limits_of version in
+    let both = both_gave (read_parts limits parts nothing_made) (λ found. Ok (script_by version parts found.0.0 found.0.1 found.1)) script e in
+    subst IsSound (same_Ok _ _ both.2) (sound_by version is parts both.0.0.0 both.0.0.1 both.0.1 ((parts_are_sound limits (one_body version) parts fit).holds nothing_made both.0 both.1))
 
 root_is_sound : (at : ℕ) (row : Trees) → HaveFittingNumbers row → (script : Script) → root_of at row ≡ Ok script → IsSound script
 unfolding HaveFittingNumbers
-root_is_sound at (And (Number place version) row) numbers script e = by (parts_of row) (parts_fit row numbers.1) e
+root_is_sound at (And (Number place number) row) numbers script e = by (parts_of row) (parts_fit row numbers.1) e
   where
-    by_version : (parts : Parts) (one : Bool) → PartsFit parts → ◌≡◌ {A = Result Script ScriptFault} (elim one [ false ↦ Err (Shape place) | true ↦ script_of_parts parts ]) (Ok script) → IsSound script
-    by_version parts true fit e = parts_make_sound parts fit script e
-    by_version parts false fit e = absurd (err-ok _ _ e)
+    by_version : (parts : Parts) (found : Option ℕ) → version_of number ≡ found → PartsFit parts
+        → ◌≡◌ {A = Result Script ScriptFault} (elim found [ None ↦ Err (Shape place) | Some version ↦ script_of_parts version parts ]) (Ok script) → IsSound script
+    by_version parts (Some version) known fit e = parts_make_sound version (is_first number version known) parts fit script e
+    by_version parts None known fit e = absurd (err-ok _ _ e)
 
     by : (found : Option Parts) → IfSome found PartsFit → ◌≡◌ {A = Result Script ScriptFault} (elim found [
       | None ↦ Err (Shape at)
-      | Some parts ↦ elim (is_one version) [ false ↦ Err (Shape place) | true ↦ script_of_parts parts ]
+      | Some parts ↦ elim (version_of number) [ None ↦ Err (Shape place) | Some version ↦ script_of_parts version parts ]
     ]) (Ok script) → IsSound script
     by None fit e = absurd (err-ok _ _ e)
-    by (Some parts) fit e = by_version parts (is_one version) fit e
+    by (Some parts) fit e = by_version parts (version_of number) refl fit e
 root_is_sound at row numbers script e = absurd (err-ok _ _ e)
 
 pub script_is_sound : (tree : Tree) → HasFittingNumbers tree → (script : Script) → script_of tree ≡ Ok script → IsSound script

@@ -12,7 +12,7 @@ use Rattle.spec_script.specs.FlowSteps.{steps}
 use Rattle.spec_script.specs.Forms.{form_of}
 use Rattle.spec_script.specs.Generator.{generated}
 use Rattle.spec_script.specs.Inputs.{input_script, mocked_script, shared_script, printed}
-use Rattle.spec_script.specs.Limits.{most_input_bytes}
+use Rattle.spec_script.specs.Limits.{limits_of, most_input_bytes}
 use Rattle.spec_script.specs.Reading.{past_gap, text_items, run_tree, trees_by, tree_at, reading}
 use Rattle.spec_script.specs.Refusals.{input_tree}
 use Rattle.spec_script.specs.Scopes.{bring, used, directory_of}
@@ -48,6 +48,7 @@ tree = tree_with 7
 
 abbrev script : Script
 script = record {
+  version = 1;
   names = [];
   declarations = [];
   bodies = Begins 0 (Then Yield Done) ∷ [];
@@ -58,11 +59,11 @@ script = record {
 }
 
 it_stands_for_it : script_of tree ≡ Ok script
-unfolding bring used directory_of form_of item traced captured_behind statements steps entries workers declaration declarations_behind domains script_of
+unfolding bring used directory_of form_of item traced captured_behind statements steps entries workers declaration declarations_behind limits_of domains script_of
 it_stands_for_it = refl
 
 it_is_an_input : input_script bytes ≡ Ok script
-unfolding past_gap text_items run_tree trees_by tree_at reading input_tree bring used directory_of form_of item traced captured_behind statements steps entries workers declaration declarations_behind domains script_of input_script
+unfolding past_gap text_items run_tree trees_by tree_at reading input_tree bring used directory_of form_of item traced captured_behind statements steps entries workers declaration declarations_behind limits_of domains script_of input_script
 it_is_an_input = refl
 
 -- ## Soundness
@@ -87,14 +88,14 @@ abbrev built : Built
 built = feature.FirstForms ∷ []
 
 mock_runs_it : mocked_script built bytes ≡ Ok script
-unfolding past_gap text_items run_tree trees_by tree_at reading input_tree bring used directory_of form_of item traced captured_behind statements steps entries workers declaration declarations_behind domains script_of input_script mocked_script
+unfolding past_gap text_items run_tree trees_by tree_at reading input_tree bring used directory_of form_of item traced captured_behind statements steps entries workers declaration declarations_behind limits_of domains script_of input_script mocked_script
 mock_runs_it = refl
 
 what_mock_runs : IsSound script × (length script.bodies ≡ 1)
 what_mock_runs = mocked_is_sound built bytes script mock_runs_it
 
 domains_run_it : shared_script built bytes ≡ Ok script
-unfolding past_gap text_items run_tree trees_by tree_at reading input_tree bring used directory_of form_of item traced captured_behind statements steps entries workers declaration declarations_behind domains script_of input_script shared_script
+unfolding past_gap text_items run_tree trees_by tree_at reading input_tree bring used directory_of form_of item traced captured_behind statements steps entries workers declaration declarations_behind limits_of domains script_of input_script shared_script
 domains_run_it = refl
 
 what_domains_run : IsSound script × IsShared script
@@ -110,7 +111,7 @@ what_is_printed_stands_for_it : StandsFor (printed bytes).text script
 what_is_printed_stands_for_it = print_stands bytes script it_is_an_input
 
 what_is_printed : (printed bytes).text ≡ codes "(eio 1 (main (yield)))\n"
-unfolding digits past_gap text_items run_tree trees_by tree_at reading input_tree bring used directory_of form_of item traced captured_behind statements steps entries workers declaration declarations_behind domains script_of canonical document printed
+unfolding digits past_gap text_items run_tree trees_by tree_at reading input_tree bring used directory_of form_of item traced captured_behind statements steps entries workers declaration declarations_behind limits_of domains script_of canonical document printed
 what_is_printed = refl
 
 it_is_short : length (printed bytes).text ≤ most_input_bytes

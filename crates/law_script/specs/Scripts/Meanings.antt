@@ -9,6 +9,7 @@ use Rattle.law_script.specs.Trees.Places.{bare}
 -- two scripts that differ at most in their forms and in the place of their first further body: these decide what is
 -- refused, and not how a script runs
 pub record MeanTheSame (a b : Script) : Type 0 where
+  pub version : a.version ≡ b.version
   pub names : a.names ≡ b.names
   pub declarations : a.declarations ≡ b.declarations
   pub bodies : a.bodies ≡ b.bodies

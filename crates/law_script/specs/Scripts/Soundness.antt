@@ -2,7 +2,7 @@
 -- It is a judgement on the syntax alone. A place knows the kinds of the declarations, by their numbers, and those of the names of the
 -- blocks around it, by their slots.
 use Rattle.std.specs.Prelude.{◌≡◌, ℕ, ◌+◌, ◌<◌, ◌≤◌, Bool, true, false, IsTrue, List, [], ◌∷◌, ◌++◌, length, map, slice_get, All, Some, None}
-use Rattle.spec_script.specs.Limits.{Range, is_within, most_declarations, most_bodies, most_traced, most_branches, most_captured, most_workers, capacities, counts, sizes, weights, reader_limits}
+use Rattle.spec_script.specs.Limits.{Range, is_within, limits_of, most_traced, most_branches, most_captured, most_workers, capacities, counts, sizes, weights, reader_limits}
 use Rattle.spec_script.specs.Kinds.{Kind, VariableKind, ContextKind, SwitchKind, ReaderKind, WriterKind, CapabilityKind, StreamKind, PromiseKind, SemaphoreKind, MutexKind, PoolKind, ExecutorKind, FlowKind, DirectoryKind, object_kind, object_kind_with}
 use Rattle.spec_script.specs.Syntax as syntax
 use Rattle.spec_script.specs.Syntax.{Expression, NumberValue, TextValue, Variable, UnitValue, Operation, Directory, Declared, Opened, Group, Both, First, Any, Forking, Plain, Daemon, Promising, Statement, Let, LetForm, If, Give, Raise, Try, Repeat, Loop, Trace, Yield, Check, AwaitCancel, Sub, Protect, Cancel, Switch, Fork, Fail, OnRelease, Branches, OnObject, OnObjectWith, UseRw, UsePool, Submit, Sleep, Now, BufRead, OnReader, TakeBytes, Copy, BufWrite, Put, OpenDir, OnPath, Save, Expressions, NoExpressions, AndExpression, Block, Begins, Statements, Done, Then, Blocks, NoBlocks, AndBlock}
@@ -176,12 +176,13 @@ IsSoundDeclaration bodies (Pool size) = IsIn sizes size
 IsSoundDeclaration bodies (Executor workers) = (1 ≤ length workers) × (length workers ≤ most_workers) × All (λ body. body < bodies) workers
 IsSoundDeclaration bodies other = Unit {0}
 
--- the declarations have a name each; main is the first body, and the only one where no further body stands
+-- the version is the one that is read; the declarations have a name each; main is the first body, and the only one where no further body stands
 pub record IsSound (script : Script) : Type 0 where
+  pub version : script.version ≡ 1
   pub names : length script.names ≡ length script.declarations
-  pub few_declarations : length script.declarations ≤ most_declarations
+  pub few_declarations : length script.declarations ≤ (limits_of script.version).declarations
   pub declarations : All (IsSoundDeclaration (length script.bodies)) script.declarations
   pub has_main : 1 ≤ length script.bodies
-  pub few_bodies : length script.bodies ≤ most_bodies
+  pub few_bodies : length script.bodies ≤ (limits_of script.version).bodies
   pub main_alone : script.first_domain ≡ None → length script.bodies ≡ 1
   pub bodies : All (IsSoundBlock (in_body (kinds_of script.declarations))) script.bodies
