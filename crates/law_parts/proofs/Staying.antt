@@ -138,8 +138,8 @@ made_reason contexts made older x why e = by (below_or_past contexts x)
 abbrev made_or : (full : Bool) → List Context → Context → Made
 made_or full contexts made = elim full [ true ↦ record { number = None; contexts = contexts } | false ↦ record { number = Some (length contexts); contexts = contexts ++ made ∷ [] } ]
 
-make_step : (most : ℕ) (contexts : List Context) (made : Context) → ParentsAreOlder contexts → ((p : ℕ) → made.parent ≡ Some p → p < length contexts) → Continues contexts (make most made contexts).contexts
-make_step most contexts made older parent = by (is_full most contexts)
+make_step : (contexts : List Context) (made : Context) → ParentsAreOlder contexts → ((p : ℕ) → made.parent ≡ Some p → p < length contexts) → Continues contexts (make made contexts).contexts
+make_step contexts made older parent = by (is_full contexts)
   where
     by : (full : Bool) → Continues contexts (made_or full contexts made).contexts
     by true = no_step contexts older
@@ -152,9 +152,9 @@ under parent length below p e = subst (λ q. q < length) (some_same parent p e) 
     some_same a b e = ap (λ o. elim o [ None ↦ a | Some x ↦ x ]) e
 
 pub call_step : (call : ContextCall) (s : Contexts) → ParentsAreOlder s.made → IsCallable call s → Continues s.made (called call s).made
-call_step Root s older may = make_step s.most s.made (new_context None false) older (λ p e. absurd (none-some p e))
-call_step (Sub parent) s older may = make_step s.most s.made (new_context (Some parent) false) older (under parent (length s.made) may)
-call_step (Protect parent) s older may = make_step s.most s.made (new_context (Some parent) true) older (under parent (length s.made) may)
+call_step Root s older may = make_step s.made (new_context None false) older (λ p e. absurd (none-some p e))
+call_step (Sub parent) s older may = make_step s.made (new_context (Some parent) false) older (under parent (length s.made) may)
+call_step (Protect parent) s older may = make_step s.made (new_context (Some parent) true) older (under parent (length s.made) may)
 call_step (Cancel c why) s older may = cancel_step s.made c why older
 call_step (Wait c fiber) s older may = no_step s.made older
 call_step (Unwait fiber) s older may = no_step s.made older
@@ -165,8 +165,8 @@ unfolding after AreCallable
 parents_stay_older [] s older may = older
 parents_stay_older (call ∷ calls) s older may = parents_stay_older calls (called call s) (call_step call s older may.0).older may.1
 
-pub no_parents : (most most_waiting : ℕ) → ParentsAreOlder (no_contexts most most_waiting).made
-no_parents most most_waiting c p e = absurd (none-some p e)
+pub no_parents : ParentsAreOlder no_contexts.made
+no_parents c p e = absurd (none-some p e)
 
 pub off_stays_after : (calls : List ContextCall) (s : Contexts) → ParentsAreOlder s.made → AreCallable calls s → (c : ℕ) (why : Plain) → off s.made c ≡ Some why → off (after calls s).made c ≡ Some why
 unfolding after AreCallable

@@ -34,7 +34,7 @@ use Rattle.trace_lines.specs.declared.line.Did.{Did}
 use Rattle.trace_lines.specs.declared.line.Did.TheVariants as did
 use Rattle.trace_lines.specs.declared.line.Said2.{Said2}
 use Rattle.trace_lines.specs.declared.line.Said2.TheVariants as said
-use Rattle.spec_machine.specs.Domain.{Role, OfJob, OfWriter, GoesOn, CallsAgain, OnObject, Asleep, ForCancel, ForOthers, Resting, Standing, Parked, Owed, Wake, Start, Duty, DomainState, off_for, made, placed, to_head, to_back, most_contexts}
+use Rattle.spec_machine.specs.Domain.{Role, OfJob, OfWriter, GoesOn, CallsAgain, OnObject, Asleep, ForCancel, ForOthers, Resting, Standing, Parked, Owed, Wake, Start, Duty, DomainState, off_for, made, placed, to_head, to_back}
 use Rattle.spec_machine.specs.Steps as steps
 use Rattle.spec_machine.specs.Steps.{Step, member, counted}
 use Rattle.spec_machine.specs.Shared.{Asked}
@@ -212,7 +212,7 @@ module _ (P : Member → Type 0) (kinds : ℕ → Bool) (s : ℕ) where
   pub received_stands : (script : Script) (mine : Option Message) (l : DomainState) → AllMine mine → Stands P kinds s l → Stands P kinds s (on_ends.received_if script mine l)
   received_stands script None l all h = h
   received_stands script (Some (message.Resume who result stamp)) l all h = back_stands P kinds s (GoesOn result) who.fiber l all h
-  received_stands script (Some (message.Start job number stamp)) l all h = begun_stands script job number (root most_contexts l.contexts).number (root most_contexts l.contexts).contexts l h
+  received_stands script (Some (message.Start job number stamp)) l all h = begun_stands script job number (root l.contexts).number (root l.contexts).contexts l h
 
   -- ## Answers of the mocked outside
 

@@ -31,7 +31,7 @@ use Rattle.trace_lines.specs.declared.line.Did.{Did}
 use Rattle.trace_lines.specs.declared.line.Did.TheVariants as did
 use Rattle.trace_lines.specs.declared.line.Said2.{Said2}
 use Rattle.trace_lines.specs.declared.line.Said2.TheVariants as said
-use Rattle.spec_machine.specs.Domain.{OfGroup, OfSwitch, GoesOn, LooksUp, FindsOff, Wait, Asleep, ForCancel, ForOthers, Fiber, DomainState, fiber_at, off_for, is_full_by, made, to_head, placed, moved_to, most_contexts}
+use Rattle.spec_machine.specs.Domain.{OfGroup, OfSwitch, GoesOn, LooksUp, FindsOff, Wait, Asleep, ForCancel, ForOthers, Fiber, DomainState, fiber_at, off_for, is_full_by, made, to_head, placed, moved_to}
 use Rattle.spec_machine.specs.Steps as steps
 use Rattle.spec_machine.specs.Steps.{Step, member, counted}
 use Rattle.spec_machine.specs.ContextMoves as on_contexts
@@ -246,7 +246,7 @@ module _ (P : Member → Type 0) (kinds : ℕ → Bool) (s : ℕ) where
       let k : Stands P kinds s t = fails_with_stands g n came l all h in
       let closed : Closed = switches.close_step g (switches.switch_at t.switches n) in
       let is : ClosedIs P kinds s closed = close_step_is P kinds s g (switches.switch_at t.switches n) (switch_is P kinds s n t k) in
-      if_kept (switches.runs_handler (switches.switch_at l.switches n) && contexts.is_full most_contexts l.contexts) _ _ (telling _ refl (none P) (none P) h)
+      if_kept (switches.runs_handler (switches.switch_at l.switches n) && contexts.is_full l.contexts) _ _ (telling _ refl (none P) (none P) h)
       (closed_kept script (ask.Close n came kept) n closed.switch.context kept closed.step g (on_switches.with_switch_at n closed.switch t) (none P) is.0 (with_switch_stands P kinds s n closed.switch t is.1 k))
 
   -- ## Groups

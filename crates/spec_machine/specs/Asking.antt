@@ -17,7 +17,7 @@ use Rattle.spec_script.specs.Syntax.{Block, ObjectCall, ObjectCallWith, ReaderCa
 use Rattle.spec_fiber.specs.Asks as ask
 use Rattle.spec_fiber.specs.Asks.{Ask, DirectoryRef, Declared, Opened}
 use Rattle.spec_fiber.specs.Numbered.{number_of}
-use Rattle.spec_machine.specs.Domain.{Role, OfJob, OnObject, Standing, Parked, Duty, Strike, Wake, Start, DomainState, fiber_at, off_for, is_full_by, wait_of, most_contexts}
+use Rattle.spec_machine.specs.Domain.{Role, OfJob, OnObject, Standing, Parked, Duty, Strike, Wake, Start, DomainState, fiber_at, off_for, is_full_by, wait_of}
 use Rattle.spec_machine.specs.Labels.{Asks, Idle, Own, Calls, Strikes, Mocks}
 use Rattle.spec_machine.specs.Preparing as doing
 use Rattle.spec_machine.specs.Preparing.{Prepared}
@@ -90,7 +90,7 @@ has_failed (outcome.Err raised) = true
 
 -- whether there is no room for one more fiber in a context of its own
 abbrev pub is_full_for_one : DomainState → Bool
-is_full_for_one l = is_full_by 1 l.fibers || is_full most_contexts l.contexts
+is_full_for_one l = is_full_by 1 l.fibers || is_full l.contexts
 
 -- a call by the table of texts and the number of the next raise
 abbrev pub mocks : DomainState → MockCall → Asks

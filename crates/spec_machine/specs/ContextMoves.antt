@@ -15,7 +15,7 @@ use Rattle.trace_lines.specs.declared.line.Did.{Did}
 use Rattle.trace_lines.specs.declared.line.Did.TheVariants as did
 use Rattle.trace_lines.specs.declared.line.Said2.{Said2}
 use Rattle.trace_lines.specs.declared.line.Said2.TheVariants as said
-use Rattle.spec_machine.specs.Domain.{Fiber, DomainState, fiber_at, moved_to, off_for, most_contexts}
+use Rattle.spec_machine.specs.Domain.{Fiber, DomainState, fiber_at, moved_to, off_for}
 use Rattle.spec_machine.specs.Steps.{Step, does, raises, raises_again, raises_cancelled, answers, enters, in_new, unless_off, cancels}
 
 abbrev pub context_of : DomainState → (fiber : ℕ) → ℕ
@@ -23,11 +23,11 @@ context_of l g = (fiber_at l.fibers g).context
 
 -- a new context below that of a fiber
 abbrev pub sub_of : DomainState → (fiber : ℕ) → Made
-sub_of l g = sub most_contexts (context_of l g) l.contexts
+sub_of l g = sub (context_of l g) l.contexts
 
 -- the same, where no cancellation comes down to it
 abbrev pub protected_of : DomainState → (fiber : ℕ) → Made
-protected_of l g = protect most_contexts (context_of l g) l.contexts
+protected_of l g = protect (context_of l g) l.contexts
 
 -- ## Going into a block, and its end
 

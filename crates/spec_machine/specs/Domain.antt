@@ -162,12 +162,8 @@ moved_to context g l = with_fiber g (record (fiber_at l.fibers g) { context = co
 
 -- ## Making and ending
 
--- the most fibers that may live, and the most contexts
 abbrev pub most_fibers : ℕ
 most_fibers = 1024
-
-abbrev pub most_contexts : ℕ
-most_contexts = 4096
 
 abbrev pub live_fibers : List Fiber → ℕ
 live_fibers fibers = count_by (λ fiber. not (has_ended fiber)) fibers

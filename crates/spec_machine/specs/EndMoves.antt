@@ -12,7 +12,7 @@ use Rattle.spec_fiber.specs.Numbered.{block_numbered}
 use Rattle.spec_fiber.specs.Replies.{begun}
 use Rattle.trace_lines.specs.declared.line.Did.TheVariants as did
 use Rattle.trace_lines.specs.declared.line.Said2.TheVariants as said
-use Rattle.spec_machine.specs.Domain.{Role, OfBody, OfJob, OfSwitch, OfGroup, OfWriter, GoesOn, DomainState, fiber_at, made, ended, to_back, most_contexts}
+use Rattle.spec_machine.specs.Domain.{Role, OfBody, OfJob, OfSwitch, OfGroup, OfWriter, GoesOn, DomainState, fiber_at, made, ended, to_back}
 use Rattle.spec_machine.specs.Steps.{Step, told, reply_of, halts}
 use Rattle.spec_machine.specs.Asking.{is_full_for_one}
 use Rattle.spec_machine.specs.ContextMoves.{context_of}
@@ -50,7 +50,7 @@ job_made script job number c l =
 
 -- where there is no room for its context, nothing is made; a job isn't started then
 abbrev pub job_begun : Script → Job → (number : ℕ) → DomainState → DomainState
-job_begun script job number l = (let it : Made = root most_contexts l.contexts in elim it.number [ None ↦ l | Some c ↦ job_made script job number c (record l { contexts = it.contexts }) ])
+job_begun script job number l = (let it : Made = root l.contexts in elim it.number [ None ↦ l | Some c ↦ job_made script job number c (record l { contexts = it.contexts }) ])
 
 -- ## Messages
 

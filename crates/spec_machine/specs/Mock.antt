@@ -8,7 +8,7 @@ use Rattle.spec_script.specs.Scripts.{Script}
 use Rattle.spec_script.specs.Syntax.{Block, Begins, Done}
 use Rattle.spec_fiber.specs.Replies.{begun}
 use Rattle.trace_lines.specs.declared.line.Line.{Line}
-use Rattle.spec_machine.specs.Domain.{OfBody, DomainState, nothing_made, made, most_contexts}
+use Rattle.spec_machine.specs.Domain.{OfBody, DomainState, nothing_made, made}
 use Rattle.spec_machine.specs.Labels.{Asks, Idle, Own, Calls, Strikes, Mocks, Label, Inner, Called, Struck, Mocked}
 use Rattle.spec_machine.specs.Shared.{SharedState, opening_shared, jobs_of_each, stepped, mine_of, after_call, strike_wins, after_strike}
 use Rattle.spec_machine.specs.Outside.{World, opening_world, OutsideStep, outside}
@@ -29,7 +29,7 @@ pub record Mock : Type 0 where
 abbrev pub opening_domain : (number : ℕ) → (texts : List (List ℕ)) → Block → DomainState
 opening_domain number texts body =
     let l : DomainState = made 0 OfBody (begun body []) (nothing_made number texts) in
-    record l { contexts = (root most_contexts []).contexts; ready = 0 ∷ [] }
+    record l { contexts = (root []).contexts; ready = 0 ∷ [] }
 
 abbrev pub first_body : List Block → Block
 first_body [] = Begins 0 Done

@@ -24,7 +24,7 @@ use Rattle.spec_fiber.specs.Replies.{Position, begun, begun_promising, handled}
 use Rattle.trace_lines.specs.declared.line.Did.{Did}
 use Rattle.trace_lines.specs.declared.line.Did.TheVariants as did
 use Rattle.trace_lines.specs.declared.line.Said2.TheVariants as said
-use Rattle.spec_machine.specs.Domain.{GoesOn, CallsAgain, OnObject, Asleep, ForCancel, ForOthers, Resting, Ready, Parked, Ended, OfSwitch, Fiber, DomainState, fiber_at, made, to_head, to_back, is_full_by, most_contexts}
+use Rattle.spec_machine.specs.Domain.{GoesOn, CallsAgain, OnObject, Asleep, ForCancel, ForOthers, Resting, Ready, Parked, Ended, OfSwitch, Fiber, DomainState, fiber_at, made, to_head, to_back, is_full_by}
 use Rattle.spec_machine.specs.Steps.{Step, told, new_raise, does, raises, answers, waits, halts, in_new, unless_off, cancels}
 use Rattle.spec_machine.specs.ContextMoves.{sub_of, protected_of, before_block, enters_context, leaves}
 
@@ -155,7 +155,7 @@ closes script call n came kept g l =
 
 -- where a handler is next and there is no room for its context, the limit is met before anything else
 abbrev pub close : Script → Ask → (switch : ℕ) → Option Raised → (kept : Value) → (fiber : ℕ) → DomainState → Step
-close script call n came kept g l = elim (runs_handler (switch_at l.switches n) && is_full most_contexts l.contexts) [
+close script call n came kept g l = elim (runs_handler (switch_at l.switches n) && is_full l.contexts) [
   | true ↦ halts g l
   | false ↦ closes script call n came kept g l
 ]

@@ -4,16 +4,13 @@ use Rattle.eio_value.specs.declared.plain.Plain.{Plain}
 use Rattle.spec_parts.specs.Contexts as contexts
 use Rattle.spec_parts.specs.Contexts.{Context, Waiting, root, sub, protect, cancel, reached}
 
--- how many contexts may live and how many fibers may wait at a time; all contexts that were made, and the waiting fibers in order of their
--- numbers
+-- all contexts that were made, and the waiting fibers in order of their numbers
 pub record Contexts : Type 0 where
-  pub most : ℕ
-  pub most_waiting : ℕ
   pub made : List Context
   pub waiting : List Waiting
 
-abbrev pub no_contexts : (most most_waiting : ℕ) → Contexts
-no_contexts most most_waiting = record { most = most; most_waiting = most_waiting; made = []; waiting = [] }
+abbrev pub no_contexts : Contexts
+no_contexts = record { made = []; waiting = [] }
 
 -- a waiting fiber put in its place
 abbrev pub put_in : Waiting → List Waiting → List Waiting
@@ -38,9 +35,9 @@ pub data ContextCall : Type 0 where
 
 -- what a call leaves
 abbrev pub called : ContextCall → Contexts → Contexts
-called Root s = record s { made = (root s.most s.made).contexts }
-called (Sub parent) s = record s { made = (sub s.most parent s.made).contexts }
-called (Protect parent) s = record s { made = (protect s.most parent s.made).contexts }
+called Root s = record s { made = (root s.made).contexts }
+called (Sub parent) s = record s { made = (sub parent s.made).contexts }
+called (Protect parent) s = record s { made = (protect parent s.made).contexts }
 called (Cancel c why) s = record s { made = cancel c why s.made }
 called (Wait c fiber) s = record s { waiting = put_in (record { fiber = fiber; context = c }) s.waiting }
 called (Unwait fiber) s = record s { waiting = taken_out fiber s.waiting }

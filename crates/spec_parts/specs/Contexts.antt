@@ -1,7 +1,6 @@
 -- The contexts of one domain: what a cancellation is of, and whom it reaches.
 -- Each fiber runs in a context. A root has no parent; a protected context isn't reached by what is cancelled above it. Contexts are
--- numbered from 0 in order of making, and no number is used again, so that a parent is older than its children. How many may live at a
--- time is an argument.
+-- numbered from 0 in order of making, and no number is used again, so that a parent is older than its children. At most 4,096 live.
 use Rattle.std.specs.Prelude.{ℕ, zero, suc, ◌+◌, Bool, true, false, ◌&&◌, ◌==◌, not, nat_le, is_none, List, [], ◌∷◌, ◌++◌, length, map, filter, count_by, slice_get, slice_set, Option, Some, None, unwrap_or}
 use Rattle.std.specs.List.{list_any}
 use Rattle.eio_value.specs.declared.plain.Plain.{Plain}
@@ -33,9 +32,12 @@ is_live contexts c = not (context_at contexts c).ended
 abbrev pub live_count : List Context → ℕ
 live_count contexts = count_by (λ context. not context.ended) contexts
 
+abbrev pub most_contexts : ℕ
+most_contexts = 4096
+
 -- as many live as may
-abbrev pub is_full : (most : ℕ) → List Context → Bool
-is_full most contexts = nat_le most (live_count contexts)
+abbrev pub is_full : List Context → Bool
+is_full contexts = nat_le most_contexts (live_count contexts)
 
 -- Making and ending
 
@@ -47,20 +49,20 @@ pub record Made : Type 0 where
 abbrev pub new_context : Option ℕ → Bool → Context
 new_context parent protected = record { parent = parent; protected = protected; reason = None; ended = false }
 
-abbrev pub make : (most : ℕ) → Context → List Context → Made
-make most context contexts = elim (is_full most contexts) [
+abbrev pub make : Context → List Context → Made
+make context contexts = elim (is_full contexts) [
   | true ↦ record { number = None; contexts = contexts }
   | false ↦ record { number = Some (length contexts); contexts = contexts ++ context ∷ [] }
 ]
 
-abbrev pub root : (most : ℕ) → List Context → Made
-root most contexts = make most (new_context None false) contexts
+abbrev pub root : List Context → Made
+root contexts = make (new_context None false) contexts
 
-abbrev pub sub : (most parent : ℕ) → List Context → Made
-sub most parent contexts = make most (new_context (Some parent) false) contexts
+abbrev pub sub : (parent : ℕ) → List Context → Made
+sub parent contexts = make (new_context (Some parent) false) contexts
 
-abbrev pub protect : (most parent : ℕ) → List Context → Made
-protect most parent contexts = make most (new_context (Some parent) true) contexts
+abbrev pub protect : (parent : ℕ) → List Context → Made
+protect parent contexts = make (new_context (Some parent) true) contexts
 
 -- the context has ended; it keeps all else
 abbrev pub end : ℕ → List Context → List Context

@@ -4,15 +4,12 @@ use Rattle.std.specs.Prelude.{Option, Some, None, map, length, replicate}
 use Rattle.eio_value.specs.declared.plain.Plain.{Plain}
 use Rattle.eio_value.specs.declared.plain.Plain.TheVariants.{Exit, NotFirst}
 use Rattle.spec_parts.specs.Contexts.{Context, is_live, live_count, new_context, root, sub, way_within, way_up, off, takes_effect, to_be_struck}
-use Rattle.spec_parts.specs.ContextCalls.{Contexts, no_contexts, ContextCall, Root, Sub, Protect, Cancel, Wait, Unwait, End, after}
+use Rattle.spec_parts.specs.ContextCalls.{no_contexts, ContextCall, Root, Sub, Protect, Cancel, Wait, Unwait, End, after}
 use Rattle.test_spec_parts.proofs.Exceptions.{failure}
 
--- what calls leave, begun with none
-abbrev left : List ContextCall → Contexts
-left calls = after calls (no_contexts 4096 1024)
-
+-- the contexts that calls leave, begun with none
 abbrev made : List ContextCall → List Context
-made calls = (left calls).made
+made calls = (after calls no_contexts).made
 
 -- the reason by which each of these contexts is off
 abbrev reasons : List ContextCall → List ℕ → List (Option Plain)
@@ -20,7 +17,7 @@ reasons calls cs = map (off (made calls)) cs
 
 -- the fibers that a cancellation strikes after these calls
 abbrev struck : List ContextCall → ℕ → List ℕ
-struck calls c = to_be_struck (made calls) (left calls).waiting c
+struck calls c = to_be_struck (made calls) (after calls no_contexts).waiting c
 
 -- a context that its own fiber cancels: it is off, its parent isn't, and once it has ended the parent still isn't
 sub_cancels_itself : reasons (Root ∷ Sub 0 ∷ Cancel 1 (failure 0) ∷ []) (0 ∷ 1 ∷ []) ≡ None ∷ Some (failure 0) ∷ []
@@ -142,7 +139,7 @@ nobody_is_struck = refl
 -- Numbers and the limit
 
 -- the number of a context that has ended isn't given again
-number_after_an_end : (root 4096 (made (Root ∷ Sub 0 ∷ End 1 ∷ Sub 0 ∷ End 2 ∷ []))).number ≡ Some 3
+number_after_an_end : (root (made (Root ∷ Sub 0 ∷ End 1 ∷ Sub 0 ∷ End 2 ∷ []))).number ≡ Some 3
 unfolding after way_within
 number_after_an_end = refl
 
@@ -155,20 +152,11 @@ unfolding after way_within
 live_after_an_end = refl
 
 -- with 4,095 live contexts one more is made, with 4,096 none
-last_of_all : (sub 4096 0 (replicate 4095 (new_context None false))).number ≡ Some 4095
+last_of_all : (sub 0 (replicate 4095 (new_context None false))).number ≡ Some 4095
 last_of_all = refl
 
-one_too_many : (sub 4096 0 (replicate 4096 (new_context None false))).number ≡ None
+one_too_many : (sub 0 (replicate 4096 (new_context None false))).number ≡ None
 one_too_many = refl
 
-nothing_made : length (sub 4096 0 (replicate 4096 (new_context None false))).contexts ≡ 4096
+nothing_made : length (sub 0 (replicate 4096 (new_context None false))).contexts ≡ 4096
 nothing_made = refl
-
--- where two may live, a third is made only once one of them has ended
-a_third : (sub 2 0 (made (Root ∷ Sub 0 ∷ []))).number ≡ None
-unfolding after way_within
-a_third = refl
-
-a_third_after_an_end : (sub 2 0 (made (Root ∷ Sub 0 ∷ End 1 ∷ []))).number ≡ Some 2
-unfolding after way_within
-a_third_after_an_end = refl

@@ -25,7 +25,7 @@ use Rattle.trace_lines.specs.declared.line.Did.{Did}
 use Rattle.trace_lines.specs.declared.line.Did.TheVariants as did
 use Rattle.trace_lines.specs.declared.line.Said2.{Said2}
 use Rattle.trace_lines.specs.declared.line.Said2.TheVariants as said
-use Rattle.spec_machine.specs.Domain.{GoesOn, ForCancel, Standing, Ready, DomainState, fiber_at, off_for, stands, most_contexts}
+use Rattle.spec_machine.specs.Domain.{GoesOn, ForCancel, Standing, Ready, DomainState, fiber_at, off_for, stands}
 use Rattle.spec_machine.specs.ContextMoves.{before_block, enters_context, leaves}
 use Rattle.spec_machine.specs.Moves.{own_call}
 use Rattle.spec_machine.specs.Steps.{Step, does, raises, raises_cancelled, goes_off, waits, in_new, cancels}
@@ -172,20 +172,20 @@ pub protect_kinded : (body : Block) → CallKinded (ask.Protect body)
 unfolding own_call
 protect_kinded body script forms g l kinded calls =
     by_room script g l kinded true (λ c m. enters_context did.Protect (said.Done (value.Ctx c)) c (before_block (ask.Protect body) c g m) g m)
-    (into_kinded script g l kinded true (ask.Protect body) (length l.contexts) calls tt did.Protect (said.Done (value.Ctx (length l.contexts)))) (is_full most_contexts l.contexts)
+    (into_kinded script g l kinded true (ask.Protect body) (length l.contexts) calls tt did.Protect (said.Done (value.Ctx (length l.contexts)))) (is_full l.contexts)
 
 pub sub_kinded : (body : Block) → CallKinded (ask.Sub body)
 unfolding own_call
 sub_kinded body script forms g l kinded calls = by_off (off_for l g) where
   by_off : (why : Option Plain) → IsKinded script (elim why as (λ _. Step) [
     | Some why ↦ raises_cancelled did.Sub why g l
-    | None ↦ in_new (made_by script g l kinded false (is_full most_contexts l.contexts)) g l (λ c m. enters_context did.Sub (said.Done (value.Ctx c)) c (before_block (ask.Sub body) c g m) g m)
+    | None ↦ in_new (made_by script g l kinded false (is_full l.contexts)) g l (λ c m. enters_context did.Sub (said.Done (value.Ctx c)) c (before_block (ask.Sub body) c g m) g m)
   ]).state
   by_off (Some why) = still script l kinded g _
   by_off None =
       by_room script g l kinded false (λ c m. enters_context did.Sub (said.Done (value.Ctx c)) c (before_block (ask.Sub body) c g m) g m)
       (into_kinded script g l kinded false (ask.Sub body) (length l.contexts) calls (context_named script g l kinded false) did.Sub (said.Done (value.Ctx (length l.contexts))))
-      (is_full most_contexts l.contexts)
+      (is_full l.contexts)
 
 -- ## Into a switch
 
@@ -221,10 +221,10 @@ unfolding own_call
 switch_call_kinded body script forms g l kinded calls = by_off (off_for l g) where
   by_off : (why : Option Plain) → IsKinded script (elim why as (λ _. Step) [
     | Some why ↦ raises_cancelled did.Switch why g l
-    | None ↦ in_new (made_by script g l kinded false (is_full most_contexts l.contexts)) g l (switch_next body g (length l.switches))
+    | None ↦ in_new (made_by script g l kinded false (is_full l.contexts)) g l (switch_next body g (length l.switches))
   ]).state
   by_off (Some why) = still script l kinded g _
-  by_off None = by_room script g l kinded false (switch_next body g (length l.switches)) (opens_kinded script g l kinded body calls) (is_full most_contexts l.contexts)
+  by_off None = by_room script g l kinded false (switch_next body g (length l.switches)) (opens_kinded script g l kinded body calls) (is_full l.contexts)
 
 -- ## Out of a block
 

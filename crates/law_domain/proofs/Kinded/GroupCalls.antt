@@ -16,7 +16,7 @@ use Rattle.spec_script.specs.Syntax.{Block}
 use Rattle.spec_fiber.specs.Asks as ask
 use Rattle.spec_fiber.specs.Asks.{Ask}
 use Rattle.spec_fiber.specs.Replies.{begun, entered, other_branches}
-use Rattle.spec_machine.specs.Domain.{Cells, GoesOn, Ready, Fiber, DomainState, fiber_at, behind_next_cell, is_full_by, moved_to, off_for, placed, to_head, most_contexts}
+use Rattle.spec_machine.specs.Domain.{Cells, GoesOn, Ready, Fiber, DomainState, fiber_at, behind_next_cell, is_full_by, moved_to, off_for, placed, to_head}
 use Rattle.spec_machine.specs.ContextMoves.{before_block, context_of, leaves}
 use Rattle.spec_machine.specs.GroupMoves.{branches_in, did_branch, kind_of, joined_by, makes, numbers_from, own_ended}
 use Rattle.spec_machine.specs.Moves.{own_call}
@@ -90,10 +90,10 @@ module _ (script : Script) (g : ℕ) (l : DomainState) (kinded : IsKinded script
 
   by_full : (full : Bool) → IsKinded script (elim full as (λ _. Step) [
     | true ↦ halts g l
-    | false ↦ in_new (made_by script g l kinded false (is_full most_contexts l.contexts)) g l (λ c m. branches_in (ask.Branches kind blocks) kind blocks c g m)
+    | false ↦ in_new (made_by script g l kinded false (is_full l.contexts)) g l (λ c m. branches_in (ask.Branches kind blocks) kind blocks c g m)
   ]).state
   by_full true = kinded
-  by_full false = by_room script g l kinded false (λ c m. branches_in (ask.Branches kind blocks) kind blocks c g m) in_kinded (is_full most_contexts l.contexts)
+  by_full false = by_room script g l kinded false (λ c m. branches_in (ask.Branches kind blocks) kind blocks c g m) in_kinded (is_full l.contexts)
 
   by_off : (why : Option Plain) → IsKinded script (elim why as (λ _. Step) [
     | Some reason ↦ raises_cancelled (did_branch kind (context_of l g)) reason g l

@@ -27,7 +27,7 @@ use Rattle.spec_fiber.specs.Numbered.{number_of, block_numbered}
 use Rattle.spec_fiber.specs.Replies.{begun, handled}
 use Rattle.trace_lines.specs.declared.line.Did.TheVariants as did
 use Rattle.trace_lines.specs.declared.line.Said2.TheVariants as said
-use Rattle.spec_machine.specs.Domain.{Role, OfBody, OfSwitch, OfGroup, GoesOn, CallsAgain, OnObject, Asleep, ForCancel, ForOthers, Resting, Standing, Ready, Parked, Ended, Fiber, DomainState, fiber_at, next_cell, is_full_by, ended, stands, to_back, to_head, most_contexts}
+use Rattle.spec_machine.specs.Domain.{Role, OfBody, OfSwitch, OfGroup, GoesOn, CallsAgain, OnObject, Asleep, ForCancel, ForOthers, Resting, Standing, Ready, Parked, Ended, Fiber, DomainState, fiber_at, next_cell, is_full_by, ended, stands, to_back, to_head}
 use Rattle.spec_machine.specs.ContextMoves.{before_block, enters_context, leaves}
 use Rattle.spec_machine.specs.EndMoves.{after_end, ends_context}
 use Rattle.spec_machine.specs.GroupMoves.{branch_ended, cancels_if}
@@ -159,12 +159,12 @@ on_release_kinded n block script forms g l kinded calls =
       by_finished : (handler : Handler) → IsKindedHandler script (made_facts script (length l.switches) (length l.contexts)) handler → (finished : Bool)
           → IsKinded script (elim (elim finished as (λ _. Option Switch) [ true ↦ None | false ↦ Some (registering handler (switch_at l.switches n)) ]) as (λ _. Step) [
             | Some switch ↦ does (did.OnRelease n) g (with_switch_at n switch l)
-            | None ↦ in_new (made_by script g l kinded true (is_full most_contexts l.contexts)) g l
+            | None ↦ in_new (made_by script g l kinded true (is_full l.contexts)) g l
                 (λ c m. enters_context (did.OnRelease n) said.Handler c (before_block (ask.OnRelease n block) c g m) g m)
           ]).state
       by_finished handler is true =
           by_room script g l kinded true (λ c m. enters_context (did.OnRelease n) said.Handler c (before_block (ask.OnRelease n block) c g m) g m)
-          (into_kinded script g l kinded true (ask.OnRelease n block) (length l.contexts) calls tt (did.OnRelease n) said.Handler) (is_full most_contexts l.contexts)
+          (into_kinded script g l kinded true (ask.OnRelease n block) (length l.contexts) calls tt (did.OnRelease n) said.Handler) (is_full l.contexts)
       by_finished handler is false =
           still script (with_switch_at n (registering handler (switch_at l.switches n)) l)
           (switch_kinded script l kinded n (registering handler (switch_at l.switches n))
@@ -261,7 +261,7 @@ module _ (script : Script) (g : ℕ) (t : DomainState) (kinded : IsKinded script
         (kinded_placed script running.fibers running.switches (length new_context.contexts) (context_kinded script g running running_kinded true) g (length running.contexts)
         (handled (ask.Close n came kept) (length running.contexts) (block_numbered script handler.block) handler.values (fiber_at running.fibers g).work (fiber_at running.fibers g).variables)
         (Ready (GoesOn (outcome.Ok value.Unit))) before_it)
-        (is_full most_contexts running.contexts)
+        (is_full running.contexts)
 
   released_by : (last : Option Handler) → last_handler (due_batch s) ≡ last → IsClosed (release last s)
   released_by None is = returns_by s.errors
@@ -299,7 +299,7 @@ calls_after script l t call g same calls =
 
 pub close_kinded : (n : ℕ) (came : Option Raised) (kept : Value) → CallKinded (ask.Close n came kept)
 unfolding own_call
-close_kinded n came kept script forms g l kinded calls = by_handler (runs_handler (switch_at l.switches n) && is_full most_contexts l.contexts) where
+close_kinded n came kept script forms g l kinded calls = by_handler (runs_handler (switch_at l.switches n) && is_full l.contexts) where
   by_handler : (full : Bool) → IsKinded script (elim full as (λ _. Step) [
     | true ↦ halts g l
     | false ↦ closes script (ask.Close n came kept) n came kept g l

@@ -35,7 +35,7 @@ use Rattle.trace_lines.specs.declared.line.Said2.{Said2}
 use Rattle.trace_lines.specs.declared.line.Said2.TheVariants as said
 use Rattle.spec_machine.specs.ClockMoves as on_clock
 use Rattle.spec_machine.specs.ContextMoves as on_contexts
-use Rattle.spec_machine.specs.Domain.{Role, OfBody, OfJob, OfSwitch, OfGroup, OfWriter, Next, GoesOn, LooksUp, FindsOff, CallsAgain, Wait, OnObject, Asleep, ForCancel, ForOthers, Resting, Standing, Ready, Parked, Ended, Fiber, DomainState, fiber_at, never_made, off_for, is_full_by, made, ended, to_head, to_back, stands, placed, moved_to, most_contexts}
+use Rattle.spec_machine.specs.Domain.{Role, OfBody, OfJob, OfSwitch, OfGroup, OfWriter, Next, GoesOn, LooksUp, FindsOff, CallsAgain, Wait, OnObject, Asleep, ForCancel, ForOthers, Resting, Standing, Ready, Parked, Ended, Fiber, DomainState, fiber_at, never_made, off_for, is_full_by, made, ended, to_head, to_back, stands, placed, moved_to}
 use Rattle.spec_machine.specs.EndMoves as on_ends
 use Rattle.spec_machine.specs.GroupMoves as on_groups
 use Rattle.spec_machine.specs.Moves.{own_call}
@@ -404,7 +404,7 @@ close_does script n came kept g l opened =
     let t : DomainState = on_switches.fails_with g n came l in
     let s : Switch = switch_at t.switches n in
     let closed : Closed = switches.close_step g s in
-    if_does (switches.runs_handler (switch_at l.switches n) && contexts.is_full most_contexts l.contexts) g (view l) _ _ (halts_does g l)
+    if_does (switches.runs_handler (switch_at l.switches n) && contexts.is_full l.contexts) g (view l) _ _ (halts_does g l)
     (λ h. (
     let first = fails_with_leads g n came (g ∷ []) l h in
     let still : n < length t.switches = omega (arith, opened, first.made) in

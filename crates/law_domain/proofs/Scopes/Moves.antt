@@ -42,7 +42,7 @@ use Rattle.spec_machine.specs.Asking.{asks_by, asks_for, is_full_for_one}
 use Rattle.spec_machine.specs.Labels.{MockAsked, Mocks}
 use Rattle.spec_machine.specs.ClockMoves as on_clock
 use Rattle.spec_machine.specs.ContextMoves as on_contexts
-use Rattle.spec_machine.specs.Domain.{Role, OfJob, OfSwitch, OfWriter, Next, GoesOn, LooksUp, FindsOff, CallsAgain, OnObject, Asleep, ForCancel, ForOthers, Resting, Standing, Ready, Parked, Ended, Fiber, Owed, Duty, Strike, Wake, Start, DomainState, fiber_at, never_made, off_for, made, to_head, to_back, placed, most_contexts}
+use Rattle.spec_machine.specs.Domain.{Role, OfJob, OfSwitch, OfWriter, Next, GoesOn, LooksUp, FindsOff, CallsAgain, OnObject, Asleep, ForCancel, ForOthers, Resting, Standing, Ready, Parked, Ended, Fiber, Owed, Duty, Strike, Wake, Start, DomainState, fiber_at, never_made, off_for, made, to_head, to_back, placed}
 use Rattle.spec_machine.specs.DutyMoves as on_duties
 use Rattle.spec_machine.specs.EndMoves as on_ends
 use Rattle.spec_machine.specs.MockMoves as on_mocks
@@ -314,12 +314,12 @@ of_job : (executor number n : ℕ) (daemon : Bool) → OfJob executor number ≡
 of_job executor number n daemon e = cc
 
 pub job_leads : (script : Script) (job : Job) (number : ℕ) (l : DomainState) → Leads [] (view l) [] (view (on_ends.job_begun script job number l))
-job_leads script job number l h = by (contexts.root most_contexts l.contexts).number
+job_leads script job number l h = by (contexts.root l.contexts).number
   where
-    by : (c : Option ℕ) → Goes (view l) [] (view (elim c as (λ _. DomainState) [ None ↦ l | Some c ↦ on_ends.job_made script job number c (record l { contexts = (contexts.root most_contexts l.contexts).contexts }) ]))
+    by : (c : Option ℕ) → Goes (view l) [] (view (elim c as (λ _. DomainState) [ None ↦ l | Some c ↦ on_ends.job_made script job number c (record l { contexts = (contexts.root l.contexts).contexts }) ]))
     by None = stays [] (view l) h
     by (Some c) =
-        let m : DomainState = made c (OfJob job.executor number) (begun (block_numbered script job.node) (take job.count job.given)) (record l { contexts = (contexts.root most_contexts l.contexts).contexts }) in
+        let m : DomainState = made c (OfJob job.executor number) (begun (block_numbered script job.node) (take job.count job.given)) (record l { contexts = (contexts.root l.contexts).contexts }) in
         both (makes_other _ [] (view l) [] tt tt tt (of_job job.executor number) (uncredited _ l.fibers l.groups [] (λ n. refl) (λ n. refl)) h) (λ k. back (GoesOn (outcome.Ok value.Unit)) (length l.fibers) [] (view m) tt k)
 
 -- what is left once a move has ended

@@ -45,7 +45,7 @@ use Rattle.trace_lines.specs.declared.line.Said2.TheVariants as said
 use Rattle.spec_machine.specs.Asking.{is_full_for_one}
 use Rattle.spec_machine.specs.ClockMoves as on_clock
 use Rattle.spec_machine.specs.ContextMoves as on_contexts
-use Rattle.spec_machine.specs.Domain.{Role, OfBody, OfJob, OfSwitch, OfGroup, OfWriter, GoesOn, CallsAgain, OnObject, Asleep, ForCancel, ForOthers, Resting, Standing, Ready, Parked, Ended, Fiber, Owed, Duty, Strike, Wake, Start, DomainState, fiber_at, never_made, off_for, is_full_by, made, ended, to_head, to_back, placed, moved_to, most_contexts}
+use Rattle.spec_machine.specs.Domain.{Role, OfBody, OfJob, OfSwitch, OfGroup, OfWriter, GoesOn, CallsAgain, OnObject, Asleep, ForCancel, ForOthers, Resting, Standing, Ready, Parked, Ended, Fiber, Owed, Duty, Strike, Wake, Start, DomainState, fiber_at, never_made, off_for, is_full_by, made, ended, to_head, to_back, placed, moved_to}
 use Rattle.spec_machine.specs.DutyMoves as on_duties
 use Rattle.spec_machine.specs.EndMoves as on_ends
 use Rattle.spec_machine.specs.GroupMoves as on_groups
@@ -176,9 +176,9 @@ module _ (n : ℕ) where
   wakes_same (g ∷ fibers) l = wakes_same fibers (to_back (GoesOn (outcome.Ok value.Unit)) g l)
 
   job_same : (script : Script) (job : Job) (number : ℕ) (l : DomainState) → (on_ends.job_begun script job number l).switches ≡ l.switches
-  job_same script job number l = by (contexts.root most_contexts l.contexts).number
+  job_same script job number l = by (contexts.root l.contexts).number
     where
-      by : (c : Option ℕ) → (elim c as (λ _. DomainState) [ None ↦ l | Some c ↦ on_ends.job_made script job number c (record l { contexts = (contexts.root most_contexts l.contexts).contexts }) ]).switches ≡ l.switches
+      by : (c : Option ℕ) → (elim c as (λ _. DomainState) [ None ↦ l | Some c ↦ on_ends.job_made script job number c (record l { contexts = (contexts.root l.contexts).contexts }) ]).switches ≡ l.switches
       by None = refl
       by (Some c) = refl
 
@@ -541,7 +541,7 @@ module _ (n : ℕ) where
 
   close_turns : (script : Script) (asked : List Handler) (m : ℕ) (came : Option Raised) (kept : Value) (g : ℕ) (l : DomainState) → g < length l.fibers → Turns script asked l.switches (on_switches.close script (ask.Close m came kept) m came kept g l)
   close_turns script asked m came kept g l inside =
-      if_turns script asked (switches.runs_handler (switch_at l.switches m) && contexts.is_full most_contexts l.contexts) l.switches _ _ (Quietly (plain _ _ (refl, refl) refl)) (by closed.step refl)
+      if_turns script asked (switches.runs_handler (switch_at l.switches m) && contexts.is_full l.contexts) l.switches _ _ (Quietly (plain _ _ (refl, refl) refl)) (by closed.step refl)
     where
       call : Ask
       call = ask.Close m came kept

@@ -43,7 +43,7 @@ use Rattle.trace_lines.specs.declared.line.Said2.TheVariants as said
 use Rattle.spec_machine.specs.Asking.{asks_by, is_full_for_one}
 use Rattle.spec_machine.specs.ClockMoves as on_clock
 use Rattle.spec_machine.specs.ContextMoves as on_contexts
-use Rattle.spec_machine.specs.Domain.{Role, OfBody, OfJob, OfSwitch, OfGroup, OfWriter, Next, GoesOn, LooksUp, FindsOff, CallsAgain, Wait, OnObject, Asleep, ForCancel, ForOthers, Resting, Standing, Ready, Parked, Ended, Fiber, Owed, Duty, Strike, Wake, Start, DomainState, fiber_at, never_made, off_for, is_full_by, made, ended, to_head, to_back, stands, placed, moved_to, most_contexts}
+use Rattle.spec_machine.specs.Domain.{Role, OfBody, OfJob, OfSwitch, OfGroup, OfWriter, Next, GoesOn, LooksUp, FindsOff, CallsAgain, Wait, OnObject, Asleep, ForCancel, ForOthers, Resting, Standing, Ready, Parked, Ended, Fiber, Owed, Duty, Strike, Wake, Start, DomainState, fiber_at, never_made, off_for, is_full_by, made, ended, to_head, to_back, stands, placed, moved_to}
 use Rattle.spec_machine.specs.DutyMoves as on_duties
 use Rattle.spec_machine.specs.EndMoves as on_ends
 use Rattle.spec_machine.specs.GroupMoves as on_groups
@@ -287,7 +287,7 @@ module _ (n c x : ℕ) where
   close_v script k came kept g l calm v =
       let t : DomainState = on_switches.fails_with g k came l in
       let closed : Closed = switches.close_step g (switch_at t.switches k) in
-      if_v (switches.runs_handler (switch_at l.switches k) && contexts.is_full most_contexts l.contexts) _ _ (halts_v g l v)
+      if_v (switches.runs_handler (switch_at l.switches k) && contexts.is_full l.contexts) _ _ (halts_v g l v)
       (close_step_v script k closed.switch.context came kept closed.step g (on_switches.with_switch_at k closed.switch t) calm (fails_with_v g k came l v))
 
   -- ## Groups
@@ -502,9 +502,9 @@ module _ (n c x : ℕ) where
   -- ## Messages
 
   job_v : (script : Script) (job : Job) (number : ℕ) (l : DomainState) → V l.fibers → V (on_ends.job_begun script job number l).fibers
-  job_v script job number l v = by (contexts.root most_contexts l.contexts).number
+  job_v script job number l v = by (contexts.root l.contexts).number
     where
-      by : (found : Option ℕ) → V (elim found as (λ _. DomainState) [ None ↦ l | Some d ↦ on_ends.job_made script job number d (record l { contexts = (contexts.root most_contexts l.contexts).contexts }) ]).fibers
+      by : (found : Option ℕ) → V (elim found as (λ _. DomainState) [ None ↦ l | Some d ↦ on_ends.job_made script job number d (record l { contexts = (contexts.root l.contexts).contexts }) ]).fibers
       by None = v
       by (Some d) =
           set_v _ (length l.fibers) _ (λ same old. record { work = old.work; call = refl }) (made_v l.fibers _ (record { work = refl; call = refl }) v)

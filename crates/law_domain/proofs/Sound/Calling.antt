@@ -18,7 +18,7 @@ use Rattle.spec_fiber.specs.Replies.{Position}
 use Rattle.trace_lines.specs.declared.line.Did.{Did}
 use Rattle.trace_lines.specs.declared.line.Did.TheVariants as did
 use Rattle.trace_lines.specs.declared.line.Said2.TheVariants as said
-use Rattle.spec_machine.specs.Domain.{GoesOn, LooksUp, FindsOff, ForCancel, Fiber, DomainState, fiber_at, moved_to, placed, off_for, to_head, most_contexts}
+use Rattle.spec_machine.specs.Domain.{GoesOn, LooksUp, FindsOff, ForCancel, Fiber, DomainState, fiber_at, moved_to, placed, off_for, to_head}
 use Rattle.spec_machine.specs.ContextMoves.{before_block, enters_context}
 use Rattle.spec_machine.specs.Moves.{own_call}
 use Rattle.spec_machine.specs.Steps.{Step, counted, does, raises, raises_cancelled, goes_off, waits, halts, in_new, cancels}
@@ -202,7 +202,7 @@ unfolding own_call
 protect_kept body script forms g held l mid sees built stamp =
     by_room g held l mid stamp true
     (λ c m. enters_context did.Protect (said.Done (value.Ctx c)) c (before_block (ask.Protect body) c g m) g m)
-    (protect_enters g held l mid sees stamp body built) (is_full most_contexts l.contexts)
+    (protect_enters g held l mid sees stamp body built) (is_full l.contexts)
 
 abbrev sub_next : Block → (fiber context : ℕ) → DomainState → Step
 sub_next body g c m = enters_context did.Sub (said.Done (value.Ctx c)) c (before_block (ask.Sub body) c g m) g m
@@ -215,17 +215,17 @@ unfolding own_call
 sub_kept body script forms g held l mid sees built stamp = by_off (off_for l g) where
   by_off : (why : Option Plain) → IsSoundUnless (one_more_line (elim why as (λ _. Step) [
     | Some why ↦ raises_cancelled did.Sub why g l
-    | None ↦ in_new (made_by g held l mid stamp false (is_full most_contexts l.contexts)) g l (sub_next body g)
+    | None ↦ in_new (made_by g held l mid stamp false (is_full l.contexts)) g l (sub_next body g)
   ]).state stamp)
   by_off (Some why) = goes_cancelled g held l mid sees stamp did.Sub why
-  by_off None = by_room g held l mid stamp false (sub_next body g) (sub_enters g held l mid sees stamp body built) (is_full most_contexts l.contexts)
+  by_off None = by_room g held l mid stamp false (sub_next body g) (sub_enters g held l mid sees stamp body built) (is_full l.contexts)
 
 pub switch_kept : (body : Block) → CallKept (ask.Switch body)
 unfolding own_call
 switch_kept body script forms g held l mid sees built stamp = by_off (off_for l g) where
   by_off : (why : Option Plain) → IsSoundUnless (one_more_line (elim why as (λ _. Step) [
     | Some why ↦ raises_cancelled did.Switch why g l
-    | None ↦ in_new (made_by g held l mid stamp false (is_full most_contexts l.contexts)) g l (switch_next body g (length l.switches))
+    | None ↦ in_new (made_by g held l mid stamp false (is_full l.contexts)) g l (switch_next body g (length l.switches))
   ]).state stamp)
   by_off (Some why) = goes_cancelled g held l mid sees stamp did.Switch why
-  by_off None = by_room g held l mid stamp false (switch_next body g (length l.switches)) (switch_enters g held l mid sees stamp body built) (is_full most_contexts l.contexts)
+  by_off None = by_room g held l mid stamp false (switch_next body g (length l.switches)) (switch_enters g held l mid sees stamp body built) (is_full l.contexts)

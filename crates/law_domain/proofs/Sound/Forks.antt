@@ -18,7 +18,7 @@ use Rattle.spec_fiber.specs.Numbered.{number_of}
 use Rattle.spec_fiber.specs.Replies.{Position, begun}
 use Rattle.trace_lines.specs.declared.line.Did.TheVariants as did
 use Rattle.trace_lines.specs.declared.line.Said2.TheVariants as said
-use Rattle.spec_machine.specs.Domain.{Next, GoesOn, Ready, OfSwitch, Fiber, DomainState, never_made, fiber_at, has_ended, live_fibers, most_fibers, made, next_cell, is_full_by, to_head, most_contexts}
+use Rattle.spec_machine.specs.Domain.{Next, GoesOn, Ready, OfSwitch, Fiber, DomainState, never_made, fiber_at, has_ended, live_fibers, most_fibers, made, next_cell, is_full_by, to_head}
 use Rattle.spec_machine.specs.ContextMoves.{before_block, enters_context}
 use Rattle.spec_machine.specs.Moves.{own_call}
 use Rattle.spec_machine.specs.Steps.{Step, counted, member, does, raises, new_raise, halts, in_new}
@@ -208,13 +208,13 @@ on_release_kept n block script forms g held l mid sees built stamp =
       by_finished : (handler : Handler) (finished : Bool)
           → IsSoundUnless (one_more_line (elim (elim finished as (λ _. Option Switch) [ true ↦ None | false ↦ Some (registering handler (switch_at l.switches n)) ]) as (λ _. Step) [
             | Some switch ↦ does (did.OnRelease n) g (with_switch_at n switch l)
-            | None ↦ in_new (made_by g held l mid stamp true (is_full most_contexts l.contexts)) g l
+            | None ↦ in_new (made_by g held l mid stamp true (is_full l.contexts)) g l
                 (λ c m. enters_context (did.OnRelease n) said.Handler c (before_block (ask.OnRelease n block) c g m) g m)
           ]).state stamp)
       by_finished handler true =
           by_room g held l mid stamp true (λ c m. enters_context (did.OnRelease n) said.Handler c (before_block (ask.OnRelease n block) c g m) g m)
           (into_context g held l mid stamp true _ (items_built block built, (tt, (mid.sound.fibers g).position (mid_lives g held l.lines l mid)))
-          (ap (λ xs. InContext (length l.contexts) ∷ xs) (sym sees))) (is_full most_contexts l.contexts)
+          (ap (λ xs. InContext (length l.contexts) ∷ xs) (sym sees))) (is_full l.contexts)
       by_finished handler false =
           goes_on_after g held l mid sees stamp (with_switch_at n (registering handler (switch_at l.switches n)) l)
           (untouched_switch n _ l (same_registering handler (switch_at l.switches n))) (outcome.Ok value.Unit)

@@ -17,7 +17,7 @@ use Rattle.spec_script.specs.Syntax.{Block, Begins, Done}
 use Rattle.spec_fiber.specs.Asks as ask
 use Rattle.spec_fiber.specs.Asks.{Ask}
 use Rattle.spec_fiber.specs.Replies.{Position, begun, entered, own_branch, other_branches}
-use Rattle.spec_machine.specs.Domain.{Cells, Next, GoesOn, OfGroup, Ready, Fiber, DomainState, never_made, fiber_at, has_ended, live_fibers, most_fibers, made, next_cell, behind_next_cell, is_full_by, moved_to, off_for, placed, to_head, most_contexts}
+use Rattle.spec_machine.specs.Domain.{Cells, Next, GoesOn, OfGroup, Ready, Fiber, DomainState, never_made, fiber_at, has_ended, live_fibers, most_fibers, made, next_cell, behind_next_cell, is_full_by, moved_to, off_for, placed, to_head}
 use Rattle.spec_machine.specs.ContextMoves.{before_block, context_of}
 use Rattle.spec_machine.specs.GroupMoves.{branched, branches_in, did_branch, kind_of, makes, numbers_from}
 use Rattle.spec_machine.specs.Moves.{own_call}
@@ -452,10 +452,10 @@ module _ (g : ℕ) (held : ℕ → List Entered) (l : DomainState) (mid : IsMid 
 
   by_full : (full : Bool) → is_full_by (length blocks - 1) l.fibers ≡ full → IsSoundUnless (one_more_line (elim full as (λ _. Step) [
     | true ↦ halts g l
-    | false ↦ in_new (made_by g held l mid stamp false (is_full most_contexts l.contexts)) g l (λ x m. branches_in call kind blocks x g m)
+    | false ↦ in_new (made_by g held l mid stamp false (is_full l.contexts)) g l (λ x m. branches_in call kind blocks x g m)
   ]).state stamp)
   by_full true is = halting g l stamp
-  by_full false is = by_room g held l mid stamp false (λ x m. branches_in call kind blocks x g m) (branches_sound is) (is_full most_contexts l.contexts)
+  by_full false is = by_room g held l mid stamp false (λ x m. branches_in call kind blocks x g m) (branches_sound is) (is_full l.contexts)
 
   by_off : (why : Option Plain) → IsSoundUnless (one_more_line (elim why as (λ _. Step) [
     | Some reason ↦ raises_cancelled (did_branch kind (context_of l g)) reason g l

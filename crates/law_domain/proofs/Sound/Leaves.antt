@@ -16,7 +16,7 @@ use Rattle.spec_fiber.specs.Numbered.{block_numbered}
 use Rattle.spec_fiber.specs.Replies.{handled}
 use Rattle.trace_lines.specs.declared.line.Did.TheVariants as did
 use Rattle.trace_lines.specs.declared.line.Said2.TheVariants as said
-use Rattle.spec_machine.specs.Domain.{GoesOn, ForOthers, Parked, Fiber, DomainState, fiber_at, stands, to_head, most_contexts}
+use Rattle.spec_machine.specs.Domain.{GoesOn, ForOthers, Parked, Fiber, DomainState, fiber_at, stands, to_head}
 use Rattle.spec_machine.specs.ContextMoves.{enters_context, leaves}
 use Rattle.spec_machine.specs.Moves.{own_call}
 use Rattle.spec_machine.specs.Steps.{Step, halts, cancels}
@@ -145,7 +145,7 @@ module _ (script : Script) (forms : HasBuiltForms script) (g : ℕ) (held : ℕ 
           (tt, (tt, (tt, (mid_running.sound.fibers g).position (mid_lives g held running.lines running mid_running)))),
         )
         (ap (λ xs. InContext (length running.contexts) ∷ xs) (sym (seen_after running same_running))))
-        (is_full most_contexts running.contexts)
+        (is_full running.contexts)
 
   -- it goes out
   module _ (nobody : (daemon : Bool) → attached_to daemon s ≡ []) where
@@ -227,7 +227,7 @@ module _ (script : Script) (forms : HasBuiltForms script) (g : ℕ) (held : ℕ 
 
 pub close_kept : (n : ℕ) (came : Option Raised) (kept : Value) → CallKept (ask.Close n came kept)
 unfolding own_call
-close_kept n came kept script forms g held l mid sees built stamp = by_full (runs_handler (switch_at l.switches n) && is_full most_contexts l.contexts) where
+close_kept n came kept script forms g held l mid sees built stamp = by_full (runs_handler (switch_at l.switches n) && is_full l.contexts) where
   by_full : (full : Bool) → IsSoundUnless (one_more_line (elim full as (λ _. Step) [
     | true ↦ halts g l
     | false ↦ closes script (ask.Close n came kept) n came kept g l

@@ -19,7 +19,7 @@ use Rattle.trace_lines.specs.declared.line.Did.TheVariants as did
 use Rattle.trace_lines.specs.declared.line.Line.{Line}
 use Rattle.spec_machine.specs.ClockMoves.{tick}
 use Rattle.spec_machine.specs.DutyMoves.{own_duty}
-use Rattle.spec_machine.specs.Domain.{OfBody, ForCancel, DomainState, nothing_made, most_contexts}
+use Rattle.spec_machine.specs.Domain.{OfBody, ForCancel, DomainState, nothing_made}
 use Rattle.spec_machine.specs.Labels.{Label, Inner}
 use Rattle.spec_machine.specs.Histories.{domain_at_first}
 use Rattle.spec_machine.specs.Mock.{opening_domain, opening, first_body}
@@ -83,8 +83,8 @@ nothing_texted script number = record {
 body_texted : (script : Script) (number : ℕ) (body : Block) → IsWrittenBlock (written_in script) body
     → IsTexted script (opening_domain number (opening_texts script) body)
 body_texted script number body is =
-    let l : DomainState = record (nothing_made number (opening_texts script)) { contexts = (root most_contexts []).contexts } in
-    let l_is : IsTexted script l = make_texted script (nothing_texted script number) most_contexts (new_context None false) tt in
+    let l : DomainState = record (nothing_made number (opening_texts script)) { contexts = (root []).contexts } in
+    let l_is : IsTexted script l = make_texted script (nothing_texted script number) (new_context None false) tt in
     made_texted script l l_is 0 OfBody (begun body []) (begun_texted script body [] is tt)
 
 first_written : (script : Script) (bodies : List Block) → Each (IsWrittenBlock (written_in script)) bodies

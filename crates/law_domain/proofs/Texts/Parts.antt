@@ -118,8 +118,8 @@ module _ (script : Script) {texts : List (List ℕ)} {fibers : List Fiber} {swit
         by false = are
 
     -- a new context has no reason yet
-    pub make_texted : (most : ℕ) (context : Context) → IsKnownReason script context.reason → AreTexted script texts fibers switches groups (make most context made).contexts
-    make_texted most context is = by (is_full most made)
+    pub make_texted : (context : Context) → IsKnownReason script context.reason → AreTexted script texts fibers switches groups (make context made).contexts
+    make_texted context is = by (is_full made)
       where
         by : (full : Bool) → AreTexted script texts fibers switches groups (made_by context made full).contexts
         by true = are

@@ -13,7 +13,7 @@ use Rattle.spec_script.specs.Scripts.{Script}
 use Rattle.spec_fiber.specs.Replies.{Position}
 use Rattle.trace_lines.specs.declared.line.Did.{Did}
 use Rattle.trace_lines.specs.declared.line.Said2.{Said2}
-use Rattle.spec_machine.specs.Domain.{Role, Next, GoesOn, LooksUp, FindsOff, Wait, Standing, Ready, Parked, DomainState, fiber_at, off_for, stands, to_head, to_back, placed, moved_to, made, ended, most_contexts}
+use Rattle.spec_machine.specs.Domain.{Role, Next, GoesOn, LooksUp, FindsOff, Wait, Standing, Ready, Parked, DomainState, fiber_at, off_for, stands, to_head, to_back, placed, moved_to, made, ended}
 use Rattle.spec_machine.specs.Steps.{Step, told, member, reply_of, answers, does, raises, raises_cancelled, yields, waits, goes_off, waits_unless_off, enters, halts, in_new, unless_off, cancels}
 use Rattle.spec_machine.specs.ContextMoves.{leaves, enters_context}
 use Rattle.law_fiber.specs.Texts.Texts.{IsHeldOutcome, known_in}
@@ -129,17 +129,17 @@ module _ (script : Script) where
     -- into a new context, or a limit is met
     pub in_new_texted : (parent : Option ℕ) (protected : Bool) (g : ℕ) (next : (context : ℕ) → DomainState → Step)
         → ((context : ℕ) (m : DomainState) → IsTexted script m → IsTextedStep script (next context m))
-        → IsTextedStep script (in_new (make most_contexts (new_context parent protected) l.contexts) g l next)
-    in_new_texted parent protected g next nexts = by (make most_contexts (new_context parent protected) l.contexts).number
+        → IsTextedStep script (in_new (make (new_context parent protected) l.contexts) g l next)
+    in_new_texted parent protected g next nexts = by (make (new_context parent protected) l.contexts).number
       where
         by : (number : Option ℕ) → IsTextedStep script (elim number [
           | None ↦ halts g l
-          | Some context ↦ next context (record l { contexts = (make most_contexts (new_context parent protected) l.contexts).contexts })
+          | Some context ↦ next context (record l { contexts = (make (new_context parent protected) l.contexts).contexts })
         ])
         by None = halts_texted g
         by (Some context) =
-            nexts context (record l { contexts = (make most_contexts (new_context parent protected) l.contexts).contexts })
-            (make_texted script is most_contexts (new_context parent protected) tt)
+            nexts context (record l { contexts = (make (new_context parent protected) l.contexts).contexts })
+            (make_texted script is (new_context parent protected) tt)
 
   pub enters_texted : (it : Did) (reply : Said2) (position : Position) (g : ℕ) (l : DomainState) → IsTexted script l → IsTextedDid script it
       → IsTextedReply script reply → IsTextedPosition script position → IsTextedStep script (enters it reply position g l)

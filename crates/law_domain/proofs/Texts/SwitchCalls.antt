@@ -22,7 +22,7 @@ use Rattle.spec_fiber.specs.Numbered.{number_of, block_numbered}
 use Rattle.spec_fiber.specs.Replies.{handled}
 use Rattle.trace_lines.specs.declared.line.Did.TheVariants as did
 use Rattle.trace_lines.specs.declared.line.Said2.TheVariants as said
-use Rattle.spec_machine.specs.Domain.{GoesOn, CallsAgain, OnObject, Asleep, ForCancel, ForOthers, Resting, Standing, Ready, Parked, Ended, OfSwitch, DomainState, fiber_at, made, to_head, to_back, is_full_by, most_contexts}
+use Rattle.spec_machine.specs.Domain.{GoesOn, CallsAgain, OnObject, Asleep, ForCancel, ForOthers, Resting, Standing, Ready, Parked, Ended, OfSwitch, DomainState, fiber_at, made, to_head, to_back, is_full_by}
 use Rattle.spec_machine.specs.Steps.{member, counted, new_raise, does, raises, halts, in_new, cancels}
 use Rattle.spec_machine.specs.ContextMoves.{context_of, sub_of, protected_of, before_block, enters_context, leaves}
 use Rattle.spec_machine.specs.SwitchMoves.{with_switch_at, opens, switch, did_fork, is_daemon, forked, makes, fork, fails, fail, woken, woken_if, given_up, detached, release, runs, returns, closed_by, fails_with, closes, close}
@@ -238,7 +238,7 @@ module _ (script : Script) where
     pub close_call_texted : (l : DomainState) → IsTexted script l → (n : ℕ) (came : Option Raised) (kept : Value) (g : ℕ)
         → IfSome came (IsHeldRaised (known_in script)) → IsHeldValue (known_in script) kept
         → IsTextedStep script (close script (ask.Close n came kept) n came kept g l)
-    close_call_texted l is n came kept g failed held = by (runs_handler (switch_at l.switches n) && is_full most_contexts l.contexts)
+    close_call_texted l is n came kept g failed held = by (runs_handler (switch_at l.switches n) && is_full l.contexts)
       where
         by : (full : Bool) → IsTextedStep script (elim full [
           | true ↦ halts g l

@@ -25,7 +25,7 @@ use Rattle.spec_fiber.specs.Replies.{begun}
 use Rattle.trace_lines.specs.declared.line.Did.{Did}
 use Rattle.trace_lines.specs.declared.line.Said2.{Said2}
 use Rattle.trace_lines.specs.declared.line.Said2.TheVariants as said
-use Rattle.spec_machine.specs.Domain.{Role, OfJob, GoesOn, FindsOff, OnObject, Asleep, ForCancel, Standing, Parked, Owed, Strike, Wake, Start, Duty, DomainState, fiber_at, off_for, made, most_contexts}
+use Rattle.spec_machine.specs.Domain.{Role, OfJob, GoesOn, FindsOff, OnObject, Asleep, ForCancel, Standing, Parked, Owed, Strike, Wake, Start, Duty, DomainState, fiber_at, off_for, made}
 use Rattle.spec_machine.specs.Steps.{counted, member}
 use Rattle.spec_machine.specs.Shared.{Asked}
 use Rattle.spec_machine.specs.EndMoves as on_ends
@@ -107,7 +107,7 @@ module _ (objects : ℕ) where
   pub received_stands : (script : Script) → BlocksAre objects script → (mine : Option Message) (l : DomainState) → MineIs objects mine → Stands objects l → Stands objects (on_ends.received_if script mine l)
   received_stands script blocks None l is h = h
   received_stands script blocks (Some (message.Resume who result stamp)) l is h = back_stands objects (GoesOn result) who.fiber l tt h
-  received_stands script blocks (Some (message.Start job number stamp)) l is h = begun_stands script blocks job number (root most_contexts l.contexts).number (root most_contexts l.contexts).contexts l is h
+  received_stands script blocks (Some (message.Start job number stamp)) l is h = begun_stands script blocks job number (root l.contexts).number (root l.contexts).contexts l is h
 
   -- ## Strikes
 

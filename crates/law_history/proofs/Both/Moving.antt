@@ -26,7 +26,7 @@ use Rattle.trace_lines.specs.declared.line.Did.{Did}
 use Rattle.trace_lines.specs.declared.line.Did.TheVariants as did
 use Rattle.trace_lines.specs.declared.line.Said2.{Said2}
 use Rattle.trace_lines.specs.declared.line.Said2.TheVariants as said
-use Rattle.spec_machine.specs.Domain.{OfGroup, OfSwitch, GoesOn, LooksUp, FindsOff, ForCancel, ForOthers, Fiber, DomainState, fiber_at, off_for, is_full_by, made, to_head, placed, moved_to, most_contexts}
+use Rattle.spec_machine.specs.Domain.{OfGroup, OfSwitch, GoesOn, LooksUp, FindsOff, ForCancel, ForOthers, Fiber, DomainState, fiber_at, off_for, is_full_by, made, to_head, placed, moved_to}
 use Rattle.spec_machine.specs.Steps as steps
 use Rattle.spec_machine.specs.Steps.{Step, counted}
 use Rattle.spec_machine.specs.ContextMoves as on_contexts
@@ -174,7 +174,7 @@ module _ (objects : ℕ) where
   close_kept script blocks n came kept g l h =
       let t : DomainState = on_switches.fails_with g n came l in
       let closed : Closed = switches.close_step g (switches.switch_at t.switches n) in
-      if_kept (switches.runs_handler (switches.switch_at l.switches n) && contexts.is_full most_contexts l.contexts) _ _ h
+      if_kept (switches.runs_handler (switches.switch_at l.switches n) && contexts.is_full l.contexts) _ _ h
       (closed_kept script blocks (ask.Close n came kept) n closed.switch.context kept closed.step g (on_switches.with_switch_at n closed.switch t) tt (fails_with_stands g n came l h))
 
   -- ## Groups

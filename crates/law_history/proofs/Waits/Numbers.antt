@@ -36,7 +36,7 @@ use Rattle.trace_lines.specs.declared.line.Said2.TheVariants as said
 use Rattle.spec_machine.specs.Asking.{is_full_for_one}
 use Rattle.spec_machine.specs.ClockMoves as on_clock
 use Rattle.spec_machine.specs.ContextMoves as on_contexts
-use Rattle.spec_machine.specs.Domain.{Role, OfBody, OfJob, OfSwitch, OfGroup, OfWriter, Next, CallsAgain, OnObject, Asleep, ForCancel, ForOthers, Resting, Standing, Ready, Parked, Ended, Fiber, Owed, Duty, Strike, Wake, Start, DomainState, fiber_at, off_for, is_full_by, ended, to_back, most_contexts}
+use Rattle.spec_machine.specs.Domain.{Role, OfBody, OfJob, OfSwitch, OfGroup, OfWriter, Next, CallsAgain, OnObject, Asleep, ForCancel, ForOthers, Resting, Standing, Ready, Parked, Ended, Fiber, Owed, Duty, Strike, Wake, Start, DomainState, fiber_at, off_for, is_full_by, ended, to_back}
 use Rattle.spec_machine.specs.DutyMoves as on_duties
 use Rattle.spec_machine.specs.EndMoves as on_ends
 use Rattle.spec_machine.specs.GroupMoves as on_groups
@@ -152,7 +152,7 @@ module _ (n : ℕ) where
   close_ends script call s came kept g l h =
       let t : DomainState = on_switches.fails_with g s came l in
       let closed : Closed = switches.close_step g (switches.switch_at t.switches s) in
-      if_ends (switches.runs_handler (switches.switch_at l.switches s) && contexts.is_full most_contexts l.contexts) _ _ (record { is = h })
+      if_ends (switches.runs_handler (switches.switch_at l.switches s) && contexts.is_full l.contexts) _ _ (record { is = h })
       (closed_ends script call s closed.switch.context kept closed.step g (on_switches.with_switch_at s closed.switch t) (fails_with_has g s came l h))
 
   -- ## Groups
@@ -343,9 +343,9 @@ module _ (n : ℕ) where
   -- ## Messages
 
   begun_has : (script : Script) (job : Job) (number : ℕ) (l : DomainState) → Has l → Has (on_ends.job_begun script job number l)
-  begun_has script job number l h = by (contexts.root most_contexts l.contexts).number
+  begun_has script job number l h = by (contexts.root l.contexts).number
     where
-      by : (c : Option ℕ) → Has (elim c [ None ↦ l | Some c ↦ on_ends.job_made script job number c (record l { contexts = (contexts.root most_contexts l.contexts).contexts }) ])
+      by : (c : Option ℕ) → Has (elim c [ None ↦ l | Some c ↦ on_ends.job_made script job number c (record l { contexts = (contexts.root l.contexts).contexts }) ])
       by None = h
       by (Some c) = h
 

@@ -4,5 +4,4 @@ use Rattle.spec_parts.specs.ContextCalls.{no_contexts, after}
 use Rattle.law_parts.proofs.cancels_below.Goals as goal
 
 pub returns : goal.returns
-returns c = λ most most_waiting calls cancelled why x may effect.
-    cancels_below (after calls (no_contexts most most_waiting)).made cancelled why x (parents_stay_older calls (no_contexts most most_waiting) (no_parents most most_waiting) may) effect
+returns c = λ calls cancelled why x may effect. cancels_below (after calls no_contexts).made cancelled why x (parents_stay_older calls no_contexts no_parents may) effect

@@ -3,5 +3,4 @@ use Rattle.spec_parts.specs.ContextCalls.{no_contexts, after}
 use Rattle.law_parts.proofs.off_stays.Goals as goal
 
 pub returns : goal.returns
-returns c = λ most most_waiting calls more x why may further e.
-    off_stays_after more (after calls (no_contexts most most_waiting)) (parents_stay_older calls (no_contexts most most_waiting) (no_parents most most_waiting) may) further x why e
+returns c = λ calls more x why may further e. off_stays_after more (after calls no_contexts) (parents_stay_older calls no_contexts no_parents may) further x why e

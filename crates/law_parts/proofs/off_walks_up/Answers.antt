@@ -4,4 +4,4 @@ use Rattle.spec_parts.specs.ContextCalls.{no_contexts, after}
 use Rattle.law_parts.proofs.off_walks_up.Goals as goal
 
 pub returns : goal.returns
-returns c = λ most most_waiting calls x may. off_walks (after calls (no_contexts most most_waiting)).made (parents_stay_older calls (no_contexts most most_waiting) (no_parents most most_waiting) may) x
+returns c = λ calls x may. off_walks (after calls no_contexts).made (parents_stay_older calls no_contexts no_parents may) x
