@@ -16,6 +16,7 @@ placeless script = record script { formed = []; first_domain = None }
 
 one_meaning : (a b : Script) → MeanTheSame a b → placeless a ≡ placeless b
 one_meaning a b same = λ i. record {
+  version = same.version i;
   names = same.names i;
   declarations = same.declarations i;
   bodies = same.bodies i;

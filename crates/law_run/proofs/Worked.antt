@@ -30,6 +30,7 @@ use Rattle.law_run.proofs.Serials.{raises_are_counted, raises_are_numbered}
 
 abbrev worked : Script
 worked = record {
+  version = 1;
   names = [];
   declarations = [];
   bodies = Begins 0 (Then (Raise (text_id 0)) Done) ∷ [];
@@ -61,7 +62,7 @@ abbrev placed : Script
 placed = record worked { first_domain = Some 7 }
 
 runs_alike : RunAlike worked placed 5
-runs_alike = runs_go_by_meaning worked placed (record { names = refl; declarations = refl; bodies = refl; texts = refl; failures = refl }) 5
+runs_alike = runs_go_by_meaning worked placed (record { version = refl; names = refl; declarations = refl; bodies = refl; texts = refl; failures = refl }) 5
 
 -- ## Its raise
 

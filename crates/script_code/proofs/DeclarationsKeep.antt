@@ -11,7 +11,8 @@ use Rattle.spec_script.specs.Entries.{EntryHead, FileHead, LinkHead, SubHead, en
 use Rattle.spec_script.specs.Faults.{Shape, Size, Twice}
 use Rattle.spec_script.specs.FlowSteps.{StepHead, DataHead, FaultHead, PauseHead, step_head, data_of, step_by, step, steps}
 use Rattle.spec_script.specs.Kinds.{Kind, StreamKind, PromiseKind, SemaphoreKind, MutexKind, PoolKind, ExecutorKind, FlowKind, DirectoryKind}
-use Rattle.spec_script.specs.Limits.{most_declarations, most_workers, most_flow_steps, most_entries, capacities, counts, sizes}
+use Rattle.spec_script.specs.declared.Limits.{Limits}
+use Rattle.spec_script.specs.Limits.{most_workers, most_flow_steps, most_entries, capacities, counts, sizes}
 use Rattle.spec_script.specs.Reads.{Made, Reads, ◌>>>◌, changes, refuses, requires_that, one_step, one_entry, text_of}
 use Rattle.spec_script.specs.Scopes.{named_in}
 use Rattle.spec_script.specs.Trees.{Tree, Word, Number, Text, Branch, Trees, Nil, And, place_of}
@@ -115,26 +116,26 @@ declare_keeps before kind (Word at name) items own =
     keeps_on (test_keeps (is_none (named_in before.scope name)) (Twice at)) λ _. keeps_on (interned_keeps name) λ id. keeps_on own λ it. kept (with_declaration before kind name id it)
 declare_keeps before kind tree items own = none_kept (Shape (place_of tree))
 
-declaration_by_keeps : (before : Declared) (at : ℕ) (form : DeclarationForm) (name : Tree) (items : Option (Reads Declaration)) → IfSome items Keeps → Keeps (declaration_by before at form name items)
-declaration_by_keeps before at form name None own = none_kept (Shape at)
-declaration_by_keeps before at form name (Some items) own =
-    keeps_on (test_keeps (nat_lt (length before.declarations) most_declarations) (Size at)) λ _.
+declaration_by_keeps : (limits : Limits) (before : Declared) (at : ℕ) (form : DeclarationForm) (name : Tree) (items : Option (Reads Declaration)) → IfSome items Keeps → Keeps (declaration_by limits before at form name items)
+declaration_by_keeps limits before at form name None own = none_kept (Shape at)
+declaration_by_keeps limits before at form name (Some items) own =
+    keeps_on (test_keeps (nat_lt (length before.declarations) limits.declarations) (Size at)) λ _.
     keeps_on (changed (λ made. record made { formed = made.formed ++ record { at = at; feature = form.feature; mocked = form.mocked } ∷ [] }) (λ made. refl) (λ made. refl)) λ _.
     declare_keeps before form.kind name items own
 
-declaration_keeps : (bodies : ℕ) (before : Declared) (tree : Tree) → Keeps (declaration bodies before tree)
+declaration_keeps : (limits : Limits) (bodies : ℕ) (before : Declared) (tree : Tree) → Keeps (declaration limits bodies before tree)
 unfolding declaration
-declaration_keeps bodies before (Branch at (And (Word place word) (And name items))) = by (declaration_form_of word)
+declaration_keeps limits bodies before (Branch at (And (Word place word) (And name items))) = by (declaration_form_of word)
   where
     by : (found : Option DeclarationForm) → Keeps {A = Declared} (elim found [
       | None ↦ refuses (Shape at)
-      | Some form ↦ declaration_by before at form name (items_of form.kind bodies items)
+      | Some form ↦ declaration_by limits before at form name (items_of form.kind bodies items)
     ])
     by None = none_kept (Shape at)
-    by (Some form) = declaration_by_keeps before at form name (items_of form.kind bodies items) (items_keep form.kind bodies items)
-declaration_keeps bodies before tree = none_kept (Shape (place_of tree))
+    by (Some form) = declaration_by_keeps limits before at form name (items_of form.kind bodies items) (items_keep form.kind bodies items)
+declaration_keeps limits bodies before tree = none_kept (Shape (place_of tree))
 
-pub declarations_keep : (bodies : ℕ) (before : Declared) (row : Trees) → Keeps (declarations_behind bodies before row)
+pub declarations_keep : (limits : Limits) (bodies : ℕ) (before : Declared) (row : Trees) → Keeps (declarations_behind limits bodies before row)
 unfolding declarations_behind
-declarations_keep bodies before Nil = kept before
-declarations_keep bodies before (And tree row) = keeps_on (declaration_keeps bodies before tree) λ more. declarations_keep bodies more row
+declarations_keep limits bodies before Nil = kept before
+declarations_keep limits bodies before (And tree row) = keeps_on (declaration_keeps limits bodies before tree) λ more. declarations_keep limits bodies more row

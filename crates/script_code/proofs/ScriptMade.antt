@@ -16,6 +16,7 @@ use Rattle.script_code.proofs.OwnTexts.{own_texts}
 abbrev pub inside_of : Parts → (table : List (List ℕ)) → (own : ℕ) → Inside
 inside_of parts table own = record {
   tree = parts.tree;
+  version = parts.version;
   names = parts.names;
   declarations = parts.declarations;
   nodes = parts.nodes;
@@ -27,8 +28,9 @@ inside_of parts table own = record {
   first_domain = parts.first_domain;
 }
 
-same_script : (a b : Script) → a.names ≡ b.names → a.declarations ≡ b.declarations → a.bodies ≡ b.bodies → a.texts ≡ b.texts → a.failures ≡ b.failures → a.formed ≡ b.formed → a.first_domain ≡ b.first_domain → a ≡ b
-same_script a b names declarations bodies texts failures formed first_domain = λ i. record {
+same_script : (a b : Script) → a.version ≡ b.version → a.names ≡ b.names → a.declarations ≡ b.declarations → a.bodies ≡ b.bodies → a.texts ≡ b.texts → a.failures ≡ b.failures → a.formed ≡ b.formed → a.first_domain ≡ b.first_domain → a ≡ b
+same_script a b version names declarations bodies texts failures formed first_domain = λ i. record {
+  version = version i;
   names = names i;
   declarations = declarations i;
   bodies = bodies i;
@@ -43,6 +45,7 @@ pub view_is : (script : Script) (parts : Parts) (table : List (List ℕ)) (own :
     → view_of (inside_of parts table own) ≡ script
 view_is script parts table own is count opened =
     same_script (view_of (inside_of parts table own)) script
+    is.version
     is.names
     is.declarations
     (ap (bodies_of parts.bodies.items) is.nodes ∙ (ap (λ numbers. bodies_of numbers (flat_bodies 0 script.bodies)) is.bodies ∙ bodies_of-flat script.bodies))

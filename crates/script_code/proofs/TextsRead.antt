@@ -12,10 +12,11 @@ use Rattle.spec_script.specs.Expressions.{item, operation, expression, traced}
 use Rattle.spec_script.specs.Faults.{ScriptFault, Shape, Size, Twice}
 use Rattle.spec_script.specs.Forms.{ExpressionHead, UnitHead, OperatorHead, expression_head, Head, LetHead, IfHead, GiveHead, RaiseHead, TryHead, RepeatHead, LoopHead, TraceHead, YieldHead, CheckHead, AwaitCancelHead, SubHead, ProtectHead, CancelHead, SwitchHead, ForkHead, ForkDaemonHead, ForkPromiseHead, FailHead, OnReleaseHead, PairHead, RowHead, ObjectHead, ObjectHeadWith, UseRwHead, UsePoolHead, SubmitHead, SleepHead, NowHead, BufReadHead, ReaderHead, TakeBytesHead, CopyHead, BufWriteHead, PutHead, OpenDirHead, PathHead, SaveHead, Form, form_of}
 use Rattle.spec_script.specs.Kinds.{Kind, StreamKind, SemaphoreKind, DirectoryKind, VariableKind, ContextKind, SwitchKind, ReaderKind, WriterKind, CapabilityKind, PromiseKind, MutexKind, PoolKind, ExecutorKind, FlowKind, object_kind, object_kind_with}
-use Rattle.spec_script.specs.Limits.{weights, reader_limits, most_branches, most_traced, most_bodies, most_declarations, capacities, counts, sizes}
+use Rattle.spec_script.specs.declared.Limits.{Limits}
+use Rattle.spec_script.specs.Limits.{weights, reader_limits, most_branches, most_traced, limits_of, capacities, counts, sizes}
 use Rattle.spec_script.specs.Reads.{Made, nothing_made, Reads, ◌>>>◌, gives, refuses, requires_that, one_node, interned, text_of, failure_of}
 use Rattle.spec_script.specs.Scopes.{Scope, named_in}
-use Rattle.spec_script.specs.Scripts.{Script, items_behind, Parts, parts_of, bodies_of, body_scope, body, domains, read_parts, script_by, script_of_parts, is_one, root_of, script_of}
+use Rattle.spec_script.specs.Scripts.{Script, items_behind, Parts, parts_of, bodies_of, body_scope, body, domains, read_parts, script_by, script_of_parts, version_of, root_of, script_of}
 use Rattle.spec_script.specs.Statements.{form_node, block_of, statements, statement, value, block, branches, form}
 use Rattle.spec_script.specs.Syntax as syntax
 use Rattle.spec_script.specs.Syntax.{Expression, Expressions, Statement, Block, Begins, Statements, Done, Then, Blocks, NoBlocks, AndBlock}
@@ -315,34 +316,34 @@ declare_is n before kind (Word at name) items own =
     (λ has among are. (each_both (IsAmong n) before.names (id ∷ []) are.0 (among, tt), each_both (HasTextsOfDeclaration n) before.declarations (it ∷ []) are.1 (has, tt)))
 declare_is n before kind tree items own = refused (Shape (place_of tree))
 
-declaration_by_is : (n : ℕ) (before : Declared) (at : ℕ) (form : DeclarationForm) (name : Tree) (items : Option (Reads Declaration)) → IfSome items (Gives n (HasTextsOfDeclaration n))
-    → Gives n (GoesOn n before) (declaration_by before at form name items)
-declaration_by_is n before at form name None own = refused (Shape at)
-declaration_by_is n before at form name (Some items) own =
-    past (test_keeps (nat_lt (length before.declarations) most_declarations) (Size at)) λ _.
+declaration_by_is : (n : ℕ) (limits : Limits) (before : Declared) (at : ℕ) (form : DeclarationForm) (name : Tree) (items : Option (Reads Declaration)) → IfSome items (Gives n (HasTextsOfDeclaration n))
+    → Gives n (GoesOn n before) (declaration_by limits before at form name items)
+declaration_by_is n limits before at form name None own = refused (Shape at)
+declaration_by_is n limits before at form name (Some items) own =
+    past (test_keeps (nat_lt (length before.declarations) limits.declarations) (Size at)) λ _.
     past (changed (λ made. record made { formed = made.formed ++ record { at = at; feature = form.feature; mocked = form.mocked } ∷ [] }) (λ made. refl) (λ made. refl)) λ _.
     declare_is n before form.kind name items own
 
-declaration_is : (n bodies : ℕ) (before : Declared) (tree : Tree) → Gives n (GoesOn n before) (declaration bodies before tree)
+declaration_is : (n : ℕ) (limits : Limits) (bodies : ℕ) (before : Declared) (tree : Tree) → Gives n (GoesOn n before) (declaration limits bodies before tree)
 unfolding declaration
-declaration_is n bodies before (Branch at (And (Word place word) (And name items))) = by (declaration_form_of word)
+declaration_is n limits bodies before (Branch at (And (Word place word) (And name items))) = by (declaration_form_of word)
   where
     by : (found : Option DeclarationForm) → Gives n (GoesOn n before) (elim found [
       | None ↦ refuses (Shape at)
-      | Some form ↦ declaration_by before at form name (items_of form.kind bodies items)
+      | Some form ↦ declaration_by limits before at form name (items_of form.kind bodies items)
     ])
     by None = refused (Shape at)
-    by (Some form) = declaration_by_is n before at form name (items_of form.kind bodies items) (items_are n form.kind bodies items)
-declaration_is n bodies before tree = refused (Shape (place_of tree))
+    by (Some form) = declaration_by_is n limits before at form name (items_of form.kind bodies items) (items_are n form.kind bodies items)
+declaration_is n limits bodies before tree = refused (Shape (place_of tree))
 
 weaker : {A : Type 0} {n : ℕ} {P Q : A → Type 0} {read : Reads A} → ((a : A) → P a → Q a) → Gives n P read → Gives n Q read
 weaker so is = record { longer = is.longer; holds = λ made x e most. so x.0 (is.holds made x e most) }
 
-declarations_are : (n bodies : ℕ) (before : Declared) (row : Trees) → Gives n (GoesOn n before) (declarations_behind bodies before row)
+declarations_are : (n : ℕ) (limits : Limits) (bodies : ℕ) (before : Declared) (row : Trees) → Gives n (GoesOn n before) (declarations_behind limits bodies before row)
 unfolding declarations_behind
-declarations_are n bodies before Nil = given before (λ are. are)
-declarations_are n bodies before (And tree row) =
-    going_on (declaration_is n bodies before tree) λ more. weaker (λ after goes first are. goes (first are)) (declarations_are n bodies more row)
+declarations_are n limits bodies before Nil = given before (λ are. are)
+declarations_are n limits bodies before (And tree row) =
+    going_on (declaration_is n limits bodies before tree) λ more. weaker (λ after goes first are. goes (first are)) (declarations_are n limits bodies more row)
 
 -- ## Scripts
 
@@ -352,31 +353,31 @@ HaveBodies n bodies = Each (HasTextsOfBlock n) bodies
 body_is : (n : ℕ) (declared : Declared) (items : Trees) → Gives n (HasTextsOfBlock n) (body declared items)
 body_is n declared items = block_is n (statements (body_scope declared) items) (statements_are n (body_scope declared) items)
 
-domains_are : (n : ℕ) (declared : Declared) (before : ℕ) (row : Trees) → Gives n (HaveBodies n) (domains declared before row)
+domains_are : (n : ℕ) (limits : Limits) (declared : Declared) (before : ℕ) (row : Trees) → Gives n (HaveBodies n) (domains limits declared before row)
 unfolding domains
-domains_are n declared before Nil = given [] tt
-domains_are n declared before (And tree row) = by (items_behind (codes "domain") tree) (domains_are n declared (before + 1) row)
+domains_are n limits declared before Nil = given [] tt
+domains_are n limits declared before (And tree row) = by (items_behind (codes "domain") tree) (domains_are n limits declared (before + 1) row)
   where
-    by : (found : Option Trees) → Gives n (HaveBodies n) (domains declared (before + 1) row)
+    by : (found : Option Trees) → Gives n (HaveBodies n) (domains limits declared (before + 1) row)
         → Gives n (HaveBodies n) (elim found [
           | None ↦ refuses (Shape (place_of tree))
           | Some items ↦
-              (requires_that (nat_lt before most_bodies) (Size (place_of tree)) >>> λ _.
+              (requires_that (nat_lt before limits.bodies) (Size (place_of tree)) >>> λ _.
               body declared items >>> λ first.
-              domains declared (before + 1) row >>> λ others.
+              domains limits declared (before + 1) row >>> λ others.
               gives (first ∷ others))
         ])
     by None rest = refused (Shape (place_of tree))
     by (Some items) rest =
-        past (test_keeps (nat_lt before most_bodies) (Size (place_of tree))) λ _. going_on (body_is n declared items) λ first. going_on rest λ others. given (first ∷ others) (λ more one. (one, more))
+        past (test_keeps (nat_lt before limits.bodies) (Size (place_of tree))) λ _. going_on (body_is n declared items) λ first. going_on rest λ others. given (first ∷ others) (λ more one. (one, more))
 
 abbrev HaveParts : (n : ℕ) → Declared × List Block → Type 0
 HaveParts n read = HaveBodies n read.1 × AreDeclared n read.0
 
-parts_are : (n : ℕ) (parts : Parts) → Gives n (HaveParts n) (read_parts parts)
-parts_are n parts =
-    going_on (declarations_are n (bodies_of parts) nothing_declared parts.before) λ declared.
-    going_on (body_is n declared parts.main) λ main. going_on (domains_are n declared 1 parts.behind) λ others.
+parts_are : (n : ℕ) (limits : Limits) (parts : Parts) → Gives n (HaveParts n) (read_parts limits parts)
+parts_are n limits parts =
+    going_on (declarations_are n limits (bodies_of parts) nothing_declared parts.before) λ declared.
+    going_on (body_is n declared parts.main) λ main. going_on (domains_are n limits declared 1 parts.behind) λ others.
     given (declared, main ∷ others) (λ more one goes. ((one, more), goes (tt, tt)))
 
 -- the texts of a script
@@ -387,27 +388,28 @@ pub record HasItsTexts (script : Script) : Type 0 where
 same_count : (n : ℕ) → n ≤ n
 same_count n = omega arith
 
-parts_have : (parts : Parts) (script : Script) → script_of_parts parts ≡ Ok script → HasItsTexts script
-parts_have parts script e =
-    let both = both_gave (read_parts parts nothing_made) (λ found. Ok (script_by parts found.0.0 found.0.1 found.1)) script e in
+parts_have : (version : ℕ) (parts : Parts) (script : Script) → script_of_parts version parts ≡ Ok script → HasItsTexts script
+parts_have version parts script e =
+    let both = both_gave (read_parts (limits_of version) parts nothing_made) (λ found. Ok (script_by version parts found.0.0 found.0.1 found.1)) script e in
     let n = length both.0.1.texts in
-    let are = (parts_are n parts).holds nothing_made both.0 both.1 (same_count n) in
-    subst HasItsTexts (same_Ok (script_by parts both.0.0.0 both.0.0.1 both.0.1) script both.2)
+    let are = (parts_are n (limits_of version) parts).holds nothing_made both.0 both.1 (same_count n) in
+    subst HasItsTexts (same_Ok (script_by version parts both.0.0.0 both.0.0.1 both.0.1) script both.2)
     (record { bodies = are.0; declared = record { names = are.1.0; declarations = are.1.1 } })
 
 root_has : (at : ℕ) (row : Trees) (script : Script) → root_of at row ≡ Ok script → HasItsTexts script
-root_has at (And (Number place version) row) script e = by (parts_of row) e
+root_has at (And (Number place number) row) script e = by (parts_of row) e
   where
-    by_version : (parts : Parts) (one : Bool) → ◌≡◌ {A = Result Script ScriptFault} (elim one [ false ↦ Err (Shape place) | true ↦ script_of_parts parts ]) (Ok script) → HasItsTexts script
-    by_version parts true e = parts_have parts script e
-    by_version parts false e = absurd (err-ok _ _ e)
+    by_version : (parts : Parts) (found : Option ℕ)
+        → ◌≡◌ {A = Result Script ScriptFault} (elim found [ None ↦ Err (Shape place) | Some version ↦ script_of_parts version parts ]) (Ok script) → HasItsTexts script
+    by_version parts (Some version) e = parts_have version parts script e
+    by_version parts None e = absurd (err-ok _ _ e)
 
     by : (found : Option Parts) → ◌≡◌ {A = Result Script ScriptFault} (elim found [
       | None ↦ Err (Shape at)
-      | Some parts ↦ elim (is_one version) [ false ↦ Err (Shape place) | true ↦ script_of_parts parts ]
+      | Some parts ↦ elim (version_of number) [ None ↦ Err (Shape place) | Some version ↦ script_of_parts version parts ]
     ]) (Ok script) → HasItsTexts script
     by None e = absurd (err-ok _ _ e)
-    by (Some parts) e = by_version parts (is_one version) e
+    by (Some parts) e = by_version parts (version_of number) e
 root_has at row script e = absurd (err-ok _ _ e)
 
 -- the texts of a script that is read stand in its table

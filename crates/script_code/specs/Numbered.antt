@@ -1,6 +1,6 @@
 -- Each block has the number of the node that it begins with.
 use Rattle.std.specs.Prelude.{◌≡◌, ℕ, ◌+◌, ◌≤◌, List, [], ◌∷◌, ◌++◌, length}
-use Rattle.spec_script.specs.Limits.{most_bodies}
+use Rattle.spec_script.specs.Limits.{limits_of}
 use Rattle.spec_script.specs.Scripts.{Script}
 use Rattle.spec_script.specs.Syntax.{Statement, LetForm, If, Try, Repeat, Loop, Sub, Protect, Switch, Fork, OnRelease, Branches, UseRw, UsePool, Submit, BufRead, BufWrite, OpenDir, Block, Begins, Statements, Done, Then, Blocks, NoBlocks, AndBlock}
 use Rattle.script_forms.specs.Flat.{flat_expression, flat_statement, flat_block}
@@ -48,5 +48,5 @@ AreNumberedBodies at (block ∷ rest) = IsNumberedBlock at block × AreNumberedB
 -- the bodies of a script, from node 0 on; main is the first, and there are as few as may be
 pub record HasNumbers (script : Script) : Type 0 where
   pub numbered : AreNumberedBodies 0 script.bodies
-  pub few : length script.bodies ≤ most_bodies
+  pub few : length script.bodies ≤ (limits_of script.version).bodies
   pub main : 1 ≤ length script.bodies

@@ -290,20 +290,21 @@ declarations_back [] = refl
 declarations_back (it ∷ others) = ap (λ first. first ∷ map declaration_of (map declaration_in others)) (declaration_back it) ∙ ap (λ rest. it ∷ rest) (declarations_back others)
 
 abbrev pub Parted : Type 0
-Parted = List TextId × (List Decl × (List ℕ × (List Node × (List (List ℕ) × (List TextId × (List Formed × Option ℕ))))))
+Parted = List TextId × (List Decl × (List ℕ × (List Node × (List (List ℕ) × (List TextId × (List Formed × (Option ℕ × ℕ)))))))
 
 abbrev pub parted : Script → Parted
-parted s = (s.names, (map declaration_in s.declarations, (map number_of s.bodies, (flat_bodies 0 s.bodies, (s.texts, (s.failures, (s.formed, s.first_domain)))))))
+parted s = (s.names, (map declaration_in s.declarations, (map number_of s.bodies, (flat_bodies 0 s.bodies, (s.texts, (s.failures, (s.formed, (s.first_domain, s.version))))))))
 
 abbrev pub script_by : (declarations : List Declaration) (bodies : List Block) → Parted → Script
 script_by declarations bodies p = record {
+  version = p.1.1.1.1.1.1.1.1;
   names = p.0;
   declarations = declarations;
   bodies = bodies;
   texts = p.1.1.1.1.0;
   failures = p.1.1.1.1.1.0;
   formed = p.1.1.1.1.1.1.0;
-  first_domain = p.1.1.1.1.1.1.1;
+  first_domain = p.1.1.1.1.1.1.1.0;
 }
 
 abbrev pub script_in : Parted → Script

@@ -11,6 +11,7 @@ use Rattle.script_code.specs.declared.script.Script.TheInside.{Inside}
 
 abbrev pub view_of : Inside → Script
 view_of it = record {
+  version = it.version;
   names = it.names.items;
   declarations = map declaration_of it.declarations.items;
   bodies = bodies_of it.bodies.items it.nodes.items;
@@ -30,6 +31,7 @@ pub record IsWhole (it : Inside) : Type 0 where
 -- what was read is this script
 pub record IsScriptOf (script : Script) (parts : Parts) : Type 0 where
   pub read : script_of parts.tree ≡ Ok script
+  pub version : parts.version ≡ script.version
   pub names : parts.names.items ≡ script.names
   pub declarations : map declaration_of parts.declarations.items ≡ script.declarations
   pub nodes : parts.nodes.items ≡ flat_bodies 0 script.bodies

@@ -8,8 +8,9 @@ ghost use Rattle.std.specs.Prelude.{◌≡◌};
 use crate::opening::opening;
 use crate::table::copy_of;
 use eio_value::{NoMemory, TextId, Texts};
-use script_forms::{Decl, Formed, Node};
+use script_forms::{Decl, Formed, Node, limits_of};
 use script_tree::Tree;
+use spec_script::Limits;
 use std::alloc::Global;
 use std::marker::Model;
 
@@ -18,6 +19,7 @@ use std::marker::Model;
 pub struct Script {
     /// What it was read from.
     tree: Tree,
+    version: u32,
     names: Vec<TextId>,
     declarations: Vec<Decl>,
     nodes: Vec<Node>,
@@ -52,6 +54,8 @@ impl Model for Script {
 pub struct Parts {
     /// What it was read from.
     pub tree: Tree,
+    /// The version of the notation.
+    pub version: u32,
     /// The names of what it declares, in order.
     pub names: Vec<TextId>,
     /// What it declares, in order.
@@ -72,6 +76,7 @@ pub struct Parts {
 
 impl Script {
     ghost use Rattle.std.specs.Prelude.{◌≡◌, ◌<◌, ◌≤◌, ◌^◌, Ok, Some, length, map, slice_get, IfOk};
+    ghost use Rattle.spec_script.specs.Limits.{limits_of};
     ghost use Rattle.spec_script.specs.Opening.{opening_texts};
     ghost use Rattle.spec_script.specs.Scripts.{Script as Read, script_of};
     ghost use Rattle.law_script.specs.Scripts.Soundness.{IsSound};
@@ -94,6 +99,7 @@ impl Script {
         let table = opening(alloc, parts.texts, &parts.failures)?;
         Ok(Script {
             tree: parts.tree,
+            version: parts.version,
             names: parts.names,
             declarations: parts.declarations,
             nodes: parts.nodes,
@@ -118,6 +124,20 @@ impl Script {
         ensures { result ≡ self.now.first_domain }
     {
         self.first_domain
+    }
+
+    /// The version of the notation that it is written in.
+    pub fn version(&self) -> u32
+        ensures { result ≡ self.now.version }
+    {
+        self.version
+    }
+
+    /// How many of a thing it may have, and its runs.
+    pub fn limits(&self) -> Limits
+        ensures { result ≡ limits_of self.now.version }
+    {
+        limits_of(self.version)
     }
 
     /// The names of what it declares, in order.

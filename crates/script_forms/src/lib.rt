@@ -8,12 +8,14 @@ mod declaration;
 mod fault;
 mod formed;
 mod heads;
+mod limits;
 mod node;
 
 pub use declaration::{Decl, FlowSteps};
 pub use fault::ScriptFault;
 pub use formed::Formed;
 pub use heads::{Arity, Form, Head, Shape, arity_of, begun, form_of, is_word, shape_of};
+pub use limits::limits_of;
 pub use node::{
     Directory, Forking, Group, Node, Numbers, ObjectCall, ObjectCallWith, Operator, PathCall,
     ReaderCall,

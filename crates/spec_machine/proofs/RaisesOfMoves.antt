@@ -31,6 +31,7 @@ block items = Begins 0 (statements items)
 
 abbrev main : List Statement → Script
 main items = record {
+  version = 1;
   names = [];
   declarations = declarations.Mutex ∷ declarations.Promise ∷ declarations.Flow [] ∷ [];
   bodies = block items ∷ [];

@@ -27,7 +27,7 @@ abbrev body : Block
 body = Begins 6 (Then (Branches Both (AndBlock first_branch (AndBlock second_branch NoBlocks))) Done)
 
 abbrev script : Script
-script = record { names = []; declarations = []; bodies = main ∷ body ∷ []; texts = []; failures = []; formed = []; first_domain = None }
+script = record { version = 1; names = []; declarations = []; bodies = main ∷ body ∷ []; texts = []; failures = []; formed = []; first_domain = None }
 
 -- the second body begins behind the nodes of main
 its_nodes : nodes_of script ≡

@@ -31,6 +31,7 @@ tree =
 
 abbrev script : Script
 script = record {
+  version = 1;
   names = [];
   declarations = [];
   bodies = Begins 0 (Then Check Done) ∷ [];

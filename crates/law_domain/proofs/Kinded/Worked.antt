@@ -3,6 +3,7 @@ use Rattle.std.proofs.Common.{◌≡◌, [], ◌∷◌, All, Contains, length, f
 use Rattle.std.proofs.lemmas.List.Elements.{All-from_recursion, Contains-get_or}
 use Rattle.spec_machine.specs.Domain.{fiber_at, off_for}
 use Rattle.spec_machine.specs.Preparing.{next_call, next_of, carry_of}
+use Rattle.spec_script.specs.Limits.{limits_of}
 use Rattle.law_script.specs.Scripts.Soundness.{IsSound, IsSoundDeclaration, in_body, IsSoundBlock, AreSoundStatements, IsSoundStatement}
 use Rattle.spec_fiber.specs.Numbered.{block_numbered, blocks_of_statement, blocks_from, blocks_of_statements}
 use Rattle.law_fiber.specs.Kinded.Kinds.{IsOfScript, HasKindsOfSettled}
@@ -17,8 +18,9 @@ use Rattle.law_domain.proofs.Kinded.Opening.{opens_kinded}
 -- ## The script
 
 pub is_sound : IsSound script
-unfolding IsSoundBlock AreSoundStatements IsSoundStatement
+unfolding limits_of IsSoundBlock AreSoundStatements IsSoundStatement
 is_sound = record {
+  version = refl;
   names = refl;
   few_declarations = omega arith;
   declarations = All-from_recursion (IsSoundDeclaration 1) [] tt;

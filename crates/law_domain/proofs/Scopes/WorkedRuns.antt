@@ -45,6 +45,7 @@ block number items = Begins number (statements items)
 -- the handlers are the blocks 4, 5 and 6; block 5 is registered while block 4 runs
 abbrev worked : Script
 worked = record {
+  version = 1;
   names = [];
   declarations = [];
   bodies = block 0 (Switch (block 1 (
@@ -126,6 +127,7 @@ each_handler_ends = refl
 -- the caller comes to the end of its own branch first, waits, and joins the group again once the other branch has ended
 abbrev both_of : Script
 both_of = record {
+  version = 1;
   names = [];
   declarations = [];
   bodies = block 0 (Branches Both (AndBlock (block 1 (Yield ∷ Yield ∷ [])) (AndBlock (block 2 []) NoBlocks)) ∷ []) ∷ [];

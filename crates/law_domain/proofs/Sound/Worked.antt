@@ -46,7 +46,7 @@ abbrev pub main : Block
 main = Begins 0 (Then (Switch inner) Done)
 
 abbrev pub script : Script
-script = record { names = []; declarations = []; bodies = main ∷ []; texts = []; failures = []; formed = []; first_domain = None }
+script = record { version = 1; names = []; declarations = []; bodies = main ∷ []; texts = []; failures = []; formed = []; first_domain = None }
 
 pub has_built_forms : HasBuiltForms script
 unfolding IsBuilt IsBuiltBlock AreBuilt

@@ -61,6 +61,7 @@ main = Begins 0 (Then (Try tried handler) Done)
 
 abbrev script : Script
 script = record {
+  version = 1;
   names = [];
   declarations = [];
   bodies = main ∷ [];

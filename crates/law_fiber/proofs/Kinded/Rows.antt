@@ -32,7 +32,7 @@ abbrev main : Block
 main = Begins 0 (Then (Switch inner) Done)
 
 abbrev script : Script
-script = record { names = []; declarations = []; bodies = main ∷ []; texts = []; failures = []; formed = []; first_domain = None }
+script = record { version = 1; names = []; declarations = []; bodies = main ∷ []; texts = []; failures = []; formed = []; first_domain = None }
 
 -- the third switch is known alone, and a context of that number
 abbrev third : Kind → ℕ → Bool

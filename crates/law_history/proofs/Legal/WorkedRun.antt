@@ -90,7 +90,7 @@ abbrev other_body : Block
 other_body = Begins 0 (then (adds 5) (then (OnObject Take 0) (then (adds 7) Done)))
 
 abbrev script : Script
-script = record { names = []; declarations = declarations.Stream 1 ∷ []; bodies = body ∷ other_body ∷ []; texts = [] ∷ []; failures = []; formed = []; first_domain = None }
+script = record { version = 1; names = []; declarations = declarations.Stream 1 ∷ []; bodies = body ∷ other_body ∷ []; texts = [] ∷ []; failures = []; formed = []; first_domain = None }
 
 -- ## The logs
 

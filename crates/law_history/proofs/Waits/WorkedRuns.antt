@@ -20,7 +20,7 @@ use Rattle.law_history.specs.Waits.Mocked.{AsksOnlyShared, IsHistory}
 use Rattle.law_history.proofs.Waits.Histories.{mock_runs_are_legal}
 
 abbrev alone : Block → Script
-alone body = record { names = []; declarations = declarations.Stream 0 ∷ []; bodies = body ∷ []; texts = [] ∷ []; failures = []; formed = []; first_domain = None }
+alone body = record { version = 1; names = []; declarations = declarations.Stream 0 ∷ []; bodies = body ∷ []; texts = [] ∷ []; failures = []; formed = []; first_domain = None }
 
 -- ## A fiber that takes, and main that adds
 
