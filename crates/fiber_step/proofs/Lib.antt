@@ -3,7 +3,6 @@ pub mod BranchSteps
 pub mod Branches
 pub mod CallSteps
 pub mod Dones
-pub mod Drafts
 pub mod Ends
 pub mod Entries
 pub mod ExpressionNodes

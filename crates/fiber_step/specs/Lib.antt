@@ -1,5 +1,4 @@
 pub mod Calling
-pub mod Drafting
 pub mod Entering
 pub mod Evaluating
 pub mod Going

@@ -15,6 +15,8 @@ use Rattle.fiber_step.specs.Placing.{ArePlaced}
 use Rattle.fiber_step.specs.Standing.{ask_of, works_of}
 use Rattle.fiber_step.specs.Stepping.{HasBodiesOf}
 use Rattle.fiber_step.specs.Weighing.{weight}
+use Rattle.fiber_step.specs.declared.fiber.Taken.{Taken}
+use Rattle.fiber_step.specs.declared.fiber.Taken.TheVariants as taken
 use Rattle.fiber_step.specs.declared.item.Item.TheVariants as item
 use Rattle.fiber_step.specs.declared.mark.Mark.{Mark}
 use Rattle.fiber_step.specs.declared.mark.Mark.TheVariants as mark
@@ -24,6 +26,12 @@ use Rattle.fiber_step.specs.declared.progress.Progress.TheVariants as progress
 -- where a fiber stood before this mark was taken
 abbrev pub with_mark : Mark → KeptFrames → KeptFrames
 with_mark it kept = record kept { items = kept.items ++ item.Mark it ∷ [] }
+
+-- the next item is taken
+abbrev pub Takes : KeptFrames → KeptFrames → Taken → Type 0
+Takes old new taken.Nothing = (old.items ≡ []) × (new ≡ old)
+Takes old new (taken.Mark it) = old ≡ with_mark it new
+Takes old new taken.Restored = old.items ≡ new.items ++ item.Restore new.variables ∷ []
 
 -- what a fiber's settling changes beside the fiber: the table of texts, and the number that the next raise has
 pub record Shared : Type 0 where

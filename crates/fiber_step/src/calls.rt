@@ -11,13 +11,13 @@ ghost use Rattle.spec_fiber.specs.Evaluation.{value_at};
 
 use crate::ask::Ask;
 use crate::step::{Step, Stepped};
-use crate::variables::InScope;
+use crate::variables::Variables;
 use eio_value::Operands;
 use script_code::Script;
 use script_forms::Node;
 
 /// The step of a statement that calls, and has neither operands nor blocks.
-pub(crate) fn call_at_once(script: &Script, number: u32, variables: &InScope) -> Stepped
+pub(crate) fn call_at_once(script: &Script, number: u32, variables: &Variables) -> Stepped
     requires statement { BeginsStatement (nodes_of script.now) number }
     requires kind { IsOfKind is_bare (nodes_of script.now) number }
     ensures { IsStepped (nodes_of script.now) (length script.now.texts) number variables.now result }
@@ -73,7 +73,7 @@ pub(crate) fn call_with_block(script: &Script, number: u32) -> Stepped
 }
 
 /// The step of a statement whose call hands a block on.
-pub(crate) fn call_with_job(script: &Script, number: u32, variables: &InScope) -> Stepped
+pub(crate) fn call_with_job(script: &Script, number: u32, variables: &Variables) -> Stepped
     requires statement { BeginsStatement (nodes_of script.now) number }
     requires kind { IsOfKind hands_on (nodes_of script.now) number }
     ensures { IsStepped (nodes_of script.now) (length script.now.texts) number variables.now result }
@@ -114,7 +114,7 @@ pub(crate) fn call_with_job(script: &Script, number: u32, variables: &InScope) -
 }
 
 /// The values of some slots.
-fn values_of(slots: &[u32], variables: &InScope) -> Operands
+fn values_of(slots: &[u32], variables: &Variables) -> Operands
     requires { length slots.now ≤ most_captured }
     ensures { result ≡ map (value_at variables.now) slots.now }
 {

@@ -13,7 +13,7 @@ ghost use Rattle.script_code.specs.Standing.{expression_at, behind_expression, e
 ghost use Rattle.spec_fiber.specs.Evaluation as evaluation;
 ghost use Rattle.spec_fiber.specs.Evaluation.{value_of, values_of, number_of, text_of};
 
-use crate::variables::InScope;
+use crate::variables::Variables;
 use eio_value::{Misuse, Operands, TextId, Value};
 use script_code::Script;
 use script_forms::{Node, Operator};
@@ -28,7 +28,7 @@ pub struct Operand {
 /// What an expression comes to, or what is raised in its place.
 ///
 /// Operands are evaluated from the left, and the first exception ends it. A variable that there is not is unit.
-pub fn evaluate(script: &Script, number: u32, variables: &InScope) -> Result<Operand, Misuse>
+pub fn evaluate(script: &Script, number: u32, variables: &Variables) -> Result<Operand, Misuse>
     requires { HasExpression (nodes_of script.now) number }
     ensures value { operand_value result ≡ value_of variables.now (expression_at (nodes_of script.now) number) }
     ensures behind { IfOk result (λ it. it.behind ≡ behind_expression (nodes_of script.now) number) }
@@ -65,7 +65,7 @@ pub struct NumberOperand {
 pub fn evaluate_number(
     script: &Script,
     number: u32,
-    variables: &InScope,
+    variables: &Variables,
 ) -> Result<NumberOperand, Misuse>
     requires { HasExpression (nodes_of script.now) number }
     ensures value { operand_number result ≡ number_of variables.now (expression_at (nodes_of script.now) number) }
@@ -94,7 +94,7 @@ pub struct TextOperand {
 pub fn evaluate_text(
     script: &Script,
     number: u32,
-    variables: &InScope,
+    variables: &Variables,
 ) -> Result<TextOperand, Misuse>
     requires { HasExpression (nodes_of script.now) number }
     ensures value { operand_text result ≡ text_of variables.now (expression_at (nodes_of script.now) number) }
@@ -125,7 +125,7 @@ pub fn evaluate_all(
     script: &Script,
     count: u8,
     number: u32,
-    variables: &InScope,
+    variables: &Variables,
 ) -> Result<AllOperands, Misuse>
     requires room { count ≤ most_traced }
     requires expressions { HasExpressions (nodes_of script.now) count number }

@@ -11,7 +11,6 @@ ghost use Rattle.script_code.specs.Standing.{block_at};
 ghost use Rattle.script_forms.specs.declared.node.Node.{Node};
 ghost use Rattle.spec_fiber.specs.Replies.{begun, begun_promising};
 
-use crate::draft::Changes;
 use crate::item::Item;
 use crate::mark::Mark;
 use crate::variables::Variables;
@@ -19,6 +18,16 @@ use eio_value::{NoMemory, Value};
 use std::alloc::Global;
 use std::marker::Model;
 use std::mem::replace;
+
+/// The next item of work, taken.
+#[derive(Clone, Copy)]
+pub(crate) enum Taken {
+    /// There is none.
+    Nothing,
+    Mark(Mark),
+    /// The end of a handler: the fiber's own variables are back.
+    Restored,
+}
 
 /// A fiber, by the numbers of the nodes of its script.
 #[derive(Drop)]
@@ -37,9 +46,8 @@ impl Model for Fiber {
 }
 
 impl Fiber {
-    ghost use Rattle.std.specs.Prelude.{IfOk, OnOk, OnErr};
-    ghost use Rattle.fiber_step.specs.Drafting.{changed};
-    ghost use Rattle.fiber_step.specs.Turning.{gone_into, handling, naming};
+    ghost use Rattle.std.specs.Prelude.{length, IfOk, OnOk, OnErr};
+    ghost use Rattle.fiber_step.specs.Turning.{Takes, cut_to, gone_into, handling, naming, with_mark};
 
     /// A fiber that has a block to run.
     ///
@@ -80,16 +88,73 @@ impl Fiber {
         &self.variables
     }
 
-    /// Its work, the next item last.
-    pub(crate) fn work(&self) -> &[Item]
-        ensures { result.now ≡ self.now.items }
-    {
-        self.work.as_slice()
-    }
-
     /// What its parts are allocated by.
     pub(crate) fn alloc(&self) -> Global {
         *self.work.allocator()
+    }
+
+    /// A copy of it.
+    ///
+    /// # Errors
+    /// [`NoMemory`] where memory runs out.
+    pub(crate) fn try_clone(&self) -> Result<Fiber, NoMemory>
+        ensures { IfOk result (λ it. it ≡ self.now) }
+    {
+        let mut work = Vec::new(self.alloc());
+        for item in self.work.as_slice() {
+            work.push(item.try_clone()?)?;
+        }
+        let variables = self.variables.try_clone()?;
+        Ok(Fiber { work, variables })
+    }
+
+    /// How many variables are in scope.
+    pub(crate) fn slots(&self) -> usize
+        ensures { result ≡ length self.now.variables }
+    {
+        self.variables.len()
+    }
+
+    /// Keeps the first variables alone.
+    pub(crate) fn cut(&mut self, keep: usize)
+        ensures { self.new ≡ cut_to keep self.old }
+    {
+        self.variables.cut(keep);
+    }
+
+    /// One more variable, in the next slot.
+    ///
+    /// # Errors
+    /// [`NoMemory`] where memory runs out.
+    pub(crate) fn name(&mut self, value: Value) -> Result<(), NoMemory>
+        ensures { OnOk result (self.new ≡ naming value self.old) }
+    {
+        self.variables.push(value)
+    }
+
+    /// One more item, which is the next.
+    ///
+    /// # Errors
+    /// [`NoMemory`] where memory runs out.
+    pub(crate) fn push(&mut self, mark: Mark) -> Result<(), NoMemory>
+        ensures { OnOk result (self.new ≡ with_mark mark self.old) }
+    {
+        self.work.push(Item::Mark(mark))?;
+        Ok(())
+    }
+
+    /// Takes the next item. At the end of a handler the fiber's own variables are moved back.
+    pub(crate) fn take(&mut self) -> Taken
+        ensures { Takes self.old self.new result }
+    {
+        match self.work.pop() {
+            None => Taken::Nothing,
+            Some(Item::Mark(mark)) => Taken::Mark(mark),
+            Some(Item::Restore(variables)) => {
+                self.variables = variables;
+                Taken::Restored
+            }
+        }
     }
 
     /// Goes before a block, with a mark at its end.
@@ -126,24 +191,6 @@ impl Fiber {
         if self.go_into(end, body).is_err() {
             self.variables.cut(before);
             return Err(NoMemory);
-        }
-        Ok(())
-    }
-
-    /// Takes what a draft of it has come to.
-    ///
-    /// # Errors
-    /// [`NoMemory`] where memory runs out; then the fiber is as it was.
-    pub(crate) fn keep(&mut self, mut changes: Changes) -> Result<(), NoMemory>
-        ensures ok { OnOk result (self.new ≡ changed self.old changes) }
-        ensures err { OnErr result (self.new ≡ self.old) }
-    {
-        self.work.reserve(changes.items.len() + 1)?;
-        self.variables.change(changes.kept, &mut changes.values)?;
-        self.work.truncate(changes.left);
-        self.work.append(&mut changes.items).unwrap();
-        if let Some(next) = changes.next {
-            self.work.push_reserved(Item::Mark(next));
         }
         Ok(())
     }

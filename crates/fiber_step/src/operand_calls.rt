@@ -12,7 +12,7 @@ ghost use Rattle.spec_fiber.specs.Silent.{place_in};
 use crate::ask::{Ask, DirectoryRef};
 use crate::evaluation::{evaluate, evaluate_all, evaluate_number, evaluate_text};
 use crate::step::{Step, Stepped};
-use crate::variables::InScope;
+use crate::variables::Variables;
 use eio_value::Misuse;
 use script_code::Script;
 use script_forms::{Directory, Node};
@@ -21,7 +21,7 @@ use script_forms::{Directory, Node};
 pub(crate) fn call_with_operands(
     script: &Script,
     number: u32,
-    variables: &InScope,
+    variables: &Variables,
 ) -> Result<Stepped, Misuse>
     requires statement { BeginsStatement (nodes_of script.now) number }
     requires kind { IsOfKind has_operands (nodes_of script.now) number }
@@ -62,7 +62,7 @@ pub(crate) fn call_with_operands(
 pub(crate) fn call_on_path(
     script: &Script,
     number: u32,
-    variables: &InScope,
+    variables: &Variables,
 ) -> Result<Stepped, Misuse>
     requires statement { BeginsStatement (nodes_of script.now) number }
     requires kind { IsOfKind is_of_path (nodes_of script.now) number }
@@ -101,7 +101,7 @@ pub(crate) fn call_on_path(
 }
 
 /// The directory that a statement names.
-fn place(directory: Directory, variables: &InScope) -> DirectoryRef
+fn place(directory: Directory, variables: &Variables) -> DirectoryRef
     ensures { place_of result ≡ place_in variables.now (directory_of directory) }
 {
     match directory {

@@ -4,7 +4,7 @@ ghost use Rattle.std.specs.Prelude.{◌≡◌};
 ghost use Rattle.spec_fiber.specs.Settling.{resource_of};
 
 use crate::ask::Ask;
-use crate::draft::FiberDraft;
+use crate::fiber::Fiber;
 use crate::mark::{End, Mark};
 use crate::progress::Progress;
 use eio_value::{NoMemory, Outcome, Value};
@@ -19,7 +19,7 @@ fn resource_of(value: Value) -> u32
     }
 }
 
-impl<'f> FiberDraft<'f> {
+impl Fiber {
     ghost use Rattle.std.specs.Prelude.{◌+◌, ◌<◌, ◌^◌, List, false, length, IfOk, OnOk};
     ghost use Rattle.eio_value.specs.declared.raised.Outcome.TheVariants as outcome;
     ghost use Rattle.eio_value.specs.declared.value.Value.{Value as Held};
@@ -32,21 +32,10 @@ impl<'f> FiberDraft<'f> {
     ghost use Rattle.fiber_step.specs.declared.mark.Mark.TheVariants as mark;
     ghost use Rattle.fiber_step.specs.declared.progress.Progress.TheVariants as progress;
 
-    /// Goes before a block, with a mark at its end.
-    ///
-    /// # Errors
-    /// [`NoMemory`] where memory runs out.
-    pub(crate) fn go_into(&mut self, end: Mark, body: u32) -> Result<(), NoMemory>
-        ensures { OnOk result (self.new ≡ record self.old { now = gone_into end body self.old.now }) }
-    {
-        self.push(end)?;
-        self.push(Mark::Run(body))
-    }
-
     /// The call of an end, which keeps the first variables alone, or all.
     pub(crate) fn ended(&mut self, end: End) -> Progress
         ensures call { result ≡ progress.Calls end.call }
-        ensures kept { self.new ≡ record self.old { now = kept_to end.keep self.old.now } }
+        ensures kept { self.new ≡ kept_to end.keep self.old }
     {
         if let Some(keep) = end.keep {
             self.cut(keep);
@@ -61,8 +50,7 @@ impl<'f> FiberDraft<'f> {
     pub(crate) fn pass(&mut self, mark: Mark, value: Value) -> Result<Progress, NoMemory>
         requires mark { is_run mark ≡ false }
         requires turns { HasFewTurns mark }
-        ensures fiber { OnOk result (self.new.fiber ≡ self.old.fiber) }
-        ensures turn { IfOk result (λ it. (nodes : List Begun) → IsTurn nodes (outcome.Ok value) (with_mark mark self.old.now) it self.new.now) }
+        ensures { IfOk result (λ it. (nodes : List Begun) → IsTurn nodes (outcome.Ok value) (with_mark mark self.old) it self.new) }
     {
         match mark.end(&Outcome::Ok(value)) {
             Some(end) => Ok(self.ended(end)),
@@ -76,8 +64,7 @@ impl<'f> FiberDraft<'f> {
         requires mark { is_run mark ≡ false }
         requires end { is_end mark ≡ false }
         requires turns { HasFewTurns mark }
-        ensures fiber { OnOk result (self.new.fiber ≡ self.old.fiber) }
-        ensures turn { IfOk result (λ it. (nodes : List Begun) → IsTurn nodes (outcome.Ok value) (with_mark mark self.old.now) it self.new.now) }
+        ensures { IfOk result (λ it. (nodes : List Begun) → IsTurn nodes (outcome.Ok value) (with_mark mark self.old) it self.new) }
     {
         match mark {
             Mark::Cut { keep } => Ok(self.cut_off(keep, value)),
@@ -99,7 +86,7 @@ impl<'f> FiberDraft<'f> {
     /// The end of a block that does nothing more.
     fn cut_off(&mut self, keep: usize, value: Value) -> Progress
         ensures turn { result ≡ progress.GoesOn value }
-        ensures kept { self.new ≡ record self.old { now = cut_to keep self.old.now } }
+        ensures kept { self.new ≡ cut_to keep self.old }
     {
         self.cut(keep);
         Progress::GoesOn(value)
@@ -108,7 +95,7 @@ impl<'f> FiberDraft<'f> {
     /// A name for the value of a form.
     fn bound(&mut self, slot: usize, value: Value) -> Result<Progress, NoMemory>
         ensures turn { IfOk result (λ it. it ≡ progress.GoesOn held.Unit) }
-        ensures bound { OnOk result (self.new ≡ record self.old { now = naming value (cut_to slot self.old.now) }) }
+        ensures bound { OnOk result (self.new ≡ naming value (cut_to slot self.old)) }
     {
         self.cut(slot);
         self.name(value)?;
@@ -118,7 +105,7 @@ impl<'f> FiberDraft<'f> {
     /// A turn of a `loop`.
     fn loop_again(&mut self, body: u32, keep: usize) -> Result<Progress, NoMemory>
         ensures turn { IfOk result (λ it. it ≡ progress.Calls ask.Turn) }
-        ensures goes { OnOk result (self.new ≡ record self.old { now = gone_into (mark.Loop body keep) body (cut_to keep self.old.now) }) }
+        ensures goes { OnOk result (self.new ≡ gone_into (mark.Loop body keep) body (cut_to keep self.old)) }
     {
         self.cut(keep);
         self.go_into(Mark::Loop { body, keep }, body)?;
@@ -134,8 +121,7 @@ impl<'f> FiberDraft<'f> {
         keep: usize,
     ) -> Result<Progress, NoMemory>
         requires { turn + left < 2 ^ 63 }
-        ensures fiber { OnOk result (self.new.fiber ≡ self.old.fiber) }
-        ensures turn { IfOk result (λ it. (nodes : List Begun) (value : Held) → IsTurn nodes (outcome.Ok value) (with_mark (mark.Repeat turn left body keep) self.old.now) it self.new.now) }
+        ensures { IfOk result (λ it. (nodes : List Begun) (value : Held) → IsTurn nodes (outcome.Ok value) (with_mark (mark.Repeat turn left body keep) self.old) it self.new) }
     {
         self.cut(keep);
         if left == 0 {
@@ -155,7 +141,7 @@ impl<'f> FiberDraft<'f> {
     /// The block begins once the mutex is had.
     fn locked(&mut self, mutex: u32, body: u32, value: Value) -> Result<Progress, NoMemory>
         ensures turn { IfOk result (λ it. it ≡ progress.GoesOn value) }
-        ensures goes { OnOk result (self.new ≡ record self.old { now = gone_into (mark.Unlock mutex (length self.old.now.variables)) body self.old.now }) }
+        ensures goes { OnOk result (self.new ≡ gone_into (mark.Unlock mutex (length self.old.variables)) body self.old) }
     {
         let keep = self.slots();
         self.go_into(Mark::Unlock { mutex, keep }, body)?;
@@ -165,7 +151,7 @@ impl<'f> FiberDraft<'f> {
     /// The block begins once the resource is had, which it names.
     fn given(&mut self, pool: u32, body: u32, value: Value) -> Result<Progress, NoMemory>
         ensures turn { IfOk result (λ it. it ≡ progress.GoesOn value) }
-        ensures goes { OnOk result (self.new ≡ record self.old { now = gone_into (mark.Put pool (resource_of value) (length self.old.now.variables)) body (naming value self.old.now) }) }
+        ensures goes { OnOk result (self.new ≡ gone_into (mark.Put pool (resource_of value) (length self.old.variables)) body (naming value self.old)) }
     {
         let keep = self.slots();
         let resource = resource_of(value);

@@ -1,7 +1,7 @@
 //! How a fiber goes on from one call to the next.
 //!
 //! A settling goes on in turns, each of which takes the next item of work. Its theorem is the clause `settled` of
-//! [`Fiber::settle`], and the invariant of its loop is an equation: the next call is the same from where the draft stands.
+//! [`Fiber::settle_in`], and the invariant of its loop is an equation: the next call is the same from where the fiber stands.
 //!
 //! A turn only says what is to be raised. The loop makes the raise, since it alone has the table of texts and the number of the
 //! next raise.
@@ -14,14 +14,13 @@ ghost use Rattle.fiber_step.specs.Throwing.{shared_by, IsGrown};
 ghost use Rattle.script_forms.specs.Flat.{nodes_of};
 
 use crate::ask::Ask;
-use crate::draft::{FiberDraft, Taken};
-use crate::fiber::Fiber;
+use crate::fiber::{Fiber, Taken};
 use crate::mark::Mark;
 use crate::progress::Progress;
 use eio_value::{NoMemory, Outcome, Texts, Value};
 use script_code::Script;
 
-impl<'f> FiberDraft<'f> {
+impl Fiber {
     ghost use Rattle.std.specs.Prelude.{ℕ, List};
     ghost use Rattle.eio_value.specs.declared.raised.Outcome.TheVariants as outcome;
     ghost use Rattle.script_forms.specs.declared.node.Node.{Node as Begun};
@@ -33,11 +32,10 @@ impl<'f> FiberDraft<'f> {
     /// # Errors
     /// [`NoMemory`] where memory runs out.
     fn turn(&mut self, script: &Script, value: Value) -> Result<Progress, NoMemory>
-        requires { ArePlaced (nodes_of script.now) self.old.now.items }
-        ensures fiber { OnOk result (self.new.fiber ≡ self.old.fiber) }
-        ensures turn { IfOk result (λ it. IsTurnOrRaise (nodes_of script.now) script.now.texts (outcome.Ok value) self.old.now it self.new.now) }
+        requires { ArePlaced (nodes_of script.now) self.old.items }
+        ensures { IfOk result (λ it. IsTurnOrRaise (nodes_of script.now) script.now.texts (outcome.Ok value) self.old it self.new) }
     {
-        match self.take()? {
+        match self.take() {
             Taken::Nothing => Ok(Progress::Calls(Ask::End(Outcome::Ok(value)))),
             Taken::Restored => Ok(Progress::GoesOn(value)),
             Taken::Mark(mark) => self.take_mark(script, mark, value),
@@ -47,8 +45,7 @@ impl<'f> FiberDraft<'f> {
     /// What a mark does that was taken.
     fn take_mark(&mut self, script: &Script, mark: Mark, value: Value) -> Result<Progress, NoMemory>
         requires { IsPlacedMark (nodes_of script.now) mark }
-        ensures fiber { OnOk result (self.new.fiber ≡ self.old.fiber) }
-        ensures turn { IfOk result (λ it. IsTurnOrRaise (nodes_of script.now) script.now.texts (outcome.Ok value) (with_mark mark self.old.now) it self.new.now) }
+        ensures { IfOk result (λ it. IsTurnOrRaise (nodes_of script.now) script.now.texts (outcome.Ok value) (with_mark mark self.old) it self.new) }
     {
         match mark {
             Mark::Run(at) => self.run(script, at),
@@ -62,9 +59,8 @@ impl<'f> FiberDraft<'f> {
     /// [`NoMemory`] where memory runs out, or the numbers of texts.
     fn receive(&mut self, came: &Outcome, texts: &mut Texts) -> Result<Progress, NoMemory>
         requires { HasTextsOfOutcome texts.old came.now }
-        ensures fiber { OnOk result (self.new.fiber ≡ self.old.fiber) }
         ensures grown { IsGrown texts.old texts.new }
-        ensures first { IfOk result (λ it. (nodes : List Begun) (serial : ℕ) → ArePlaced nodes self.old.now.items → HasComeTo nodes (next_call nodes came.now self.old.now) (shared_by texts.old serial) it self.new.now (shared_by texts.new serial)) }
+        ensures first { IfOk result (λ it. (nodes : List Begun) (serial : ℕ) → ArePlaced nodes self.old.items → HasComeTo nodes (next_call nodes came.now self.old) (shared_by texts.old serial) it self.new (shared_by texts.new serial)) }
     {
         match came {
             Outcome::Ok(value) => Ok(Progress::GoesOn(*value)),
@@ -72,25 +68,25 @@ impl<'f> FiberDraft<'f> {
         }
     }
 
-    /// Goes on with what came up to the next call.
+    /// Goes on with what came, a value or an exception, up to the next call, or to its end, which is a call too.
     ///
     /// # Errors
-    /// [`NoMemory`] where memory runs out, or the numbers of raises or texts.
-    fn settle(
+    /// [`NoMemory`] where memory runs out, or the numbers of raises (of 64 bits) or of texts (of 32). Then the fiber isn't used
+    /// again, and nothing is said of it; the table of texts may have grown.
+    pub fn settle_in(
         &mut self,
         script: &Script,
         texts: &mut Texts,
         serial: &mut u64,
         came: &Outcome,
     ) -> Result<Ask, NoMemory>
-        requires items { ArePlaced (nodes_of script.now) self.old.now.items }
+        requires items { ArePlaced (nodes_of script.now) self.old.items }
         requires texts { length script.now.texts ≤ length texts.old }
         requires came { HasTextsOfOutcome texts.old came.now }
-        ensures fiber { OnOk result (self.new.fiber ≡ self.old.fiber) }
-        ensures grown { IsGrown texts.old texts.new }
-        ensures settled { IfOk result (λ call. SettlesTo (nodes_of script.now) came.now self.old.now (shared_by texts.old serial.old) call self.new.now (shared_by texts.new serial.new)) }
-        ensures items { OnOk result (ArePlaced (nodes_of script.now) self.new.now.items) }
+        ensures settled { IfOk result (λ call. SettlesTo (nodes_of script.now) came.now self.old (shared_by texts.old serial.old) call self.new (shared_by texts.new serial.new)) }
+        ensures items { OnOk result (ArePlaced (nodes_of script.now) self.new.items) }
         ensures bodies { IfOk result (λ call. HasBodiesOf (nodes_of script.now) call) }
+        ensures grown { IsGrown texts.old texts.new }
     {
         let mut progress = self.receive(came, texts)?;
         // The label is the loop's name in its proof.
@@ -102,10 +98,8 @@ impl<'f> FiberDraft<'f> {
             }
         }
     }
-}
 
-impl Fiber {
-    /// Goes on with what came, a value or an exception, up to the next call, or to its end, which is a call too.
+    /// The same by a copy, so that an error changes nothing.
     ///
     /// # Errors
     /// [`NoMemory`] where memory runs out, or the numbers of raises (of 64 bits) or of texts (of 32). Then the fiber, the
@@ -129,40 +123,14 @@ impl Fiber {
         ensures texts { OnErr result (texts.new ≡ texts.old) }
     {
         let before = texts.len();
-        let settled = self.settle_by_draft(script, texts, serial, came);
-        if settled.is_ok() {
-            return settled;
-        }
-        texts.truncate(before);
-        settled
-    }
-
-    /// The same, but that after [`NoMemory`] the texts are still in the table that were put in before it.
-    fn settle_by_draft(
-        &mut self,
-        script: &Script,
-        texts: &mut Texts,
-        serial: &mut u64,
-        came: &Outcome,
-    ) -> Result<Ask, NoMemory>
-        requires items { ArePlaced (nodes_of script.now) self.old.items }
-        requires texts { length script.now.texts ≤ length texts.old }
-        requires came { HasTextsOfOutcome texts.old came.now }
-        ensures settled { IfOk result (λ call. SettlesTo (nodes_of script.now) came.now self.old (shared_by texts.old serial.old) call self.new (shared_by texts.new serial.new)) }
-        ensures items { OnOk result (ArePlaced (nodes_of script.now) self.new.items) }
-        ensures bodies { IfOk result (λ call. HasBodiesOf (nodes_of script.now) call) }
-        ensures grown { IsGrown texts.old texts.new }
-        ensures fiber { OnErr result (self.new ≡ self.old) }
-        ensures serial { OnErr result (serial.new ≡ serial.old) }
-    {
         let mut next = *serial;
-        let mut draft = FiberDraft::new(self.alloc(), self);
-        let settled = draft.settle(script, texts, &mut next, came);
+        let mut copy = self.try_clone()?;
+        let settled = copy.settle_in(script, texts, &mut next, came);
         if settled.is_err() {
+            texts.truncate(before);
             return settled;
         }
-        let changes = draft.changes();
-        self.keep(changes)?;
+        *self = copy;
         *serial = next;
         settled
     }

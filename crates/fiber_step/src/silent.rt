@@ -11,7 +11,7 @@ ghost use Rattle.spec_fiber.specs.Silent.{is_zero};
 use crate::ask::Ask;
 use crate::evaluation::{evaluate, evaluate_number};
 use crate::step::{Step, Stepped};
-use crate::variables::InScope;
+use crate::variables::Variables;
 use eio_value::{Misuse, Value};
 use script_code::Script;
 use script_forms::{Group, Node};
@@ -79,7 +79,7 @@ fn without_branches(group: Group) -> Step
 pub(crate) fn step_within(
     script: &Script,
     number: u32,
-    variables: &InScope,
+    variables: &Variables,
 ) -> Result<Stepped, Misuse>
     requires statement { BeginsStatement (nodes_of script.now) number }
     requires kind { IsOfKind is_silent (nodes_of script.now) number }

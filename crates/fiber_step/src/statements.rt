@@ -8,8 +8,8 @@ ghost use Rattle.fiber_step.specs.Stating.{IsForm};
 ghost use Rattle.script_forms.specs.Flat.{nodes_of};
 
 use crate::ask::Ask;
-use crate::draft::FiberDraft;
 use crate::evaluation::evaluate;
+use crate::fiber::Fiber;
 use crate::mark::Mark;
 use crate::progress::Progress;
 use crate::step::{Step, Stepped, step_at};
@@ -30,7 +30,7 @@ fn form_of(script: &Script, number: u32) -> u32
     form
 }
 
-impl<'f> FiberDraft<'f> {
+impl Fiber {
     ghost use Rattle.eio_value.specs.declared.raised.Outcome.TheVariants as outcome;
     ghost use Rattle.eio_value.specs.declared.value.Value.{Value as Held};
     ghost use Rattle.std.specs.Prelude.{◌+◌, ℕ, true};
@@ -45,7 +45,7 @@ impl<'f> FiberDraft<'f> {
 
     /// The marks of so many `let`s whose form is under way.
     fn bind(&mut self, lets: u32) -> Result<(), NoMemory>
-        ensures { OnOk result (self.new ≡ record self.old { now = binding lets self.old.now }) }
+        ensures { OnOk result (self.new ≡ binding lets self.old) }
     {
         let mut left = lets;
         // The label is the loop's name in its proof.
@@ -63,8 +63,7 @@ impl<'f> FiberDraft<'f> {
     /// [`NoMemory`] where memory runs out.
     pub(crate) fn run(&mut self, script: &Script, at: u32) -> Result<Progress, NoMemory>
         requires { HasStatements (nodes_of script.now) at }
-        ensures fiber { OnOk result (self.new.fiber ≡ self.old.fiber) }
-        ensures turn { IfOk result (λ it. (value : Held) → IsTurnOrRaise (nodes_of script.now) script.now.texts (outcome.Ok value) (with_mark (mark.Run at) self.old.now) it self.new.now) }
+        ensures { IfOk result (λ it. (value : Held) → IsTurnOrRaise (nodes_of script.now) script.now.texts (outcome.Ok value) (with_mark (mark.Run at) self.old) it self.new) }
     {
         match script.node(at) {
             Node::End => Ok(Progress::GoesOn(Value::Unit)),
@@ -78,9 +77,9 @@ impl<'f> FiberDraft<'f> {
         requires within { at + 1 < 2 ^ 32 }
         requires gives { Stands (nodes_of script.now) at node.Give }
         requires operand { HasExpression (nodes_of script.now) (at + 1) }
-        ensures { (value : Held) → IsTurnOrRaise (nodes_of script.now) script.now.texts (outcome.Ok value) (with_mark (mark.Run at) self.now.now) result self.now.now }
+        ensures { (value : Held) → IsTurnOrRaise (nodes_of script.now) script.now.texts (outcome.Ok value) (with_mark (mark.Run at) self.now) result self.now }
     {
-        match evaluate(script, at + 1, &self.scope()) {
+        match evaluate(script, at + 1, self.variables()) {
             Ok(operand) => Progress::GoesOn(operand.value),
             Err(why) => Progress::Raises(Plain::Invalid(why)),
         }
@@ -90,10 +89,9 @@ impl<'f> FiberDraft<'f> {
     fn state(&mut self, script: &Script, at: u32, form: u32) -> Result<Progress, NoMemory>
         requires form { IsForm (nodes_of script.now) at form }
         requires first { NoGive (nodes_of script.now) at }
-        ensures fiber { OnOk result (self.new.fiber ≡ self.old.fiber) }
-        ensures turn { IfOk result (λ it. (value : Held) → IsTurnOrRaise (nodes_of script.now) script.now.texts (outcome.Ok value) (with_mark (mark.Run at) self.old.now) it self.new.now) }
+        ensures { IfOk result (λ it. (value : Held) → IsTurnOrRaise (nodes_of script.now) script.now.texts (outcome.Ok value) (with_mark (mark.Run at) self.old) it self.new) }
     {
-        match step_at(script, form, &self.scope()) {
+        match step_at(script, form, self.variables()) {
             Ok(stepped) => self.take_step(at, form, stepped),
             Err(why) => Ok(Progress::Raises(Plain::Invalid(why))),
         }
@@ -103,8 +101,7 @@ impl<'f> FiberDraft<'f> {
     fn take_step(&mut self, at: u32, form: u32, stepped: Stepped) -> Result<Progress, NoMemory>
         requires lets { at ≤ form }
         requires step { IsLastStep stepped.step }
-        ensures fiber { OnOk result (self.new.fiber ≡ self.old.fiber) }
-        ensures turn { IfOk result (λ it. (nodes : List Begun) (texts : List (List ℕ)) (value : Held) → IsForm nodes at form → NoGive nodes at → IsStepped nodes (length texts) form self.old.now.variables stepped → IsTurnOrRaise nodes texts (outcome.Ok value) (with_mark (mark.Run at) self.old.now) it self.new.now) }
+        ensures { IfOk result (λ it. (nodes : List Begun) (texts : List (List ℕ)) (value : Held) → IsForm nodes at form → NoGive nodes at → IsStepped nodes (length texts) form self.old.variables stepped → IsTurnOrRaise nodes texts (outcome.Ok value) (with_mark (mark.Run at) self.old) it self.new) }
     {
         if let Step::Raises(text) = stepped.step {
             return Ok(Progress::Raises(Plain::Failure(text)));
@@ -117,8 +114,7 @@ impl<'f> FiberDraft<'f> {
     /// What a statement comes to that raises nothing.
     fn go_by(&mut self, step: Step) -> Result<Progress, NoMemory>
         requires { IsSilentStep step }
-        ensures fiber { OnOk result (self.new.fiber ≡ self.old.fiber) }
-        ensures done { IfOk result (λ it. IsDoneBy step self.old.now it self.new.now) }
+        ensures { IfOk result (λ it. IsDoneBy step self.old it self.new) }
     {
         match step {
             Step::Past(value) => Ok(Progress::GoesOn(value)),
@@ -146,8 +142,7 @@ impl<'f> FiberDraft<'f> {
     fn enter_by(&mut self, step: Step) -> Result<Progress, NoMemory>
         requires silent { IsSilentStep step }
         requires enters { is_entering step ≡ true }
-        ensures fiber { OnOk result (self.new.fiber ≡ self.old.fiber) }
-        ensures done { IfOk result (λ it. IsDoneBy step self.old.now it self.new.now) }
+        ensures { IfOk result (λ it. IsDoneBy step self.old it self.new) }
     {
         let keep = self.slots();
         match step {

@@ -12,7 +12,7 @@ use crate::ask::Ask;
 use crate::calls::{call_at_once, call_with_block, call_with_job};
 use crate::operand_calls::{call_on_path, call_with_operands};
 use crate::silent::{block_at_once, branching, step_within};
-use crate::variables::InScope;
+use crate::variables::Variables;
 use eio_value::{Misuse, TextId, Value};
 use script_code::Script;
 use script_forms::Node;
@@ -52,7 +52,11 @@ pub struct Stepped {
 /// What the statement that begins at a node comes to, or what is raised in its place.
 ///
 /// Operands are evaluated from the left, and the first exception ends it.
-pub(crate) fn step_at(script: &Script, number: u32, variables: &InScope) -> Result<Stepped, Misuse>
+pub(crate) fn step_at(
+    script: &Script,
+    number: u32,
+    variables: &Variables,
+) -> Result<Stepped, Misuse>
     requires { BeginsStatement (nodes_of script.now) number }
     ensures { IsStepOf (nodes_of script.now) (length script.now.texts) number variables.now result }
 {

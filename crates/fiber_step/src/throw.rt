@@ -5,7 +5,7 @@ ghost use Rattle.eio_value.specs.Exceptions.{bound_text, HasTextsOfRaised};
 ghost use Rattle.eio_value.specs.Table.{intern};
 
 use crate::ask::Ask;
-use crate::draft::FiberDraft;
+use crate::fiber::Fiber;
 use crate::mark::Mark;
 use crate::progress::Progress;
 use eio_value::{Member, NoMemory, Outcome, Plain, Raised, TextId, Texts, Value, show_raised};
@@ -53,7 +53,7 @@ fn bound_id(alloc: Global, texts: &mut Texts, raised: &Raised) -> Result<TextId,
     texts.intern(bytes.as_slice())
 }
 
-impl<'f> FiberDraft<'f> {
+impl Fiber {
     ghost use Rattle.std.specs.Prelude.{true, false, OnOk};
     ghost use Rattle.eio_value.specs.Exceptions.{HasTextsOfPlain};
     ghost use Rattle.eio_value.specs.declared.raised.Outcome.TheVariants as outcome;
@@ -70,12 +70,11 @@ impl<'f> FiberDraft<'f> {
     /// [`NoMemory`] where memory runs out.
     pub(crate) fn throw(&mut self, raised: &Raised, texts: &mut Texts) -> Result<Progress, NoMemory>
         requires { HasTextsOfRaised texts.old raised.now }
-        ensures fiber { OnOk result (self.new.fiber ≡ self.old.fiber) }
         ensures grown { IsGrown texts.old texts.new }
-        ensures turn { IfOk result (λ it. (nodes : List Begun) (serial : ℕ) → IsTurnWith nodes (next_call nodes (outcome.Err raised.now)) self.old.now (shared_by texts.old serial) it self.new.now (shared_by texts.new serial)) }
+        ensures turn { IfOk result (λ it. (nodes : List Begun) (serial : ℕ) → IsTurnWith nodes (next_call nodes (outcome.Err raised.now)) self.old (shared_by texts.old serial) it self.new (shared_by texts.new serial)) }
     {
         let came = Outcome::Err(*raised);
-        let Some(mark) = self.unwind()? else {
+        let Some(mark) = self.unwind() else {
             return Ok(Progress::Calls(Ask::End(came)));
         };
         match mark.end(&came) {
@@ -94,9 +93,8 @@ impl<'f> FiberDraft<'f> {
         requires stops { stops mark ≡ true }
         requires end { is_end mark ≡ false }
         requires texts { HasTextsOfRaised texts.old raised.now }
-        ensures fiber { OnOk result (self.new.fiber ≡ self.old.fiber) }
         ensures grown { IsGrown texts.old texts.new }
-        ensures turn { IfOk result (λ it. (nodes : List Begun) (serial : ℕ) → IsTurnWith nodes (next_call nodes (outcome.Err raised.now)) (with_mark mark self.old.now) (shared_by texts.old serial) it self.new.now (shared_by texts.new serial)) }
+        ensures turn { IfOk result (λ it. (nodes : List Begun) (serial : ℕ) → IsTurnWith nodes (next_call nodes (outcome.Err raised.now)) (with_mark mark self.old) (shared_by texts.old serial) it self.new (shared_by texts.new serial)) }
     {
         let Mark::Try { handler, keep } = mark else {
             unreachable!()
@@ -119,9 +117,8 @@ impl<'f> FiberDraft<'f> {
         serial: &mut u64,
     ) -> Result<Progress, NoMemory>
         requires { HasTextsOfPlain texts.old what }
-        ensures fiber { OnOk result (self.new.fiber ≡ self.old.fiber) }
         ensures grown { IsGrown texts.old texts.new }
-        ensures turn { IfOk result (λ it. (nodes : List Begun) → IsTurnWith nodes (next_behind nodes (progress.Raises what)) self.old.now (shared_by texts.old serial.old) it self.new.now (shared_by texts.new serial.new)) }
+        ensures turn { IfOk result (λ it. (nodes : List Begun) → IsTurnWith nodes (next_behind nodes (progress.Raises what)) self.old (shared_by texts.old serial.old) it self.new (shared_by texts.new serial.new)) }
     {
         let member = Member {
             serial: *serial,

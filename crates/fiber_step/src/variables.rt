@@ -21,7 +21,8 @@ impl Model for Variables {
 }
 
 impl Variables {
-    ghost use Rattle.std.specs.Prelude.{◌++◌, [], ◌∷◌, take, length, OnErr, OnOk};
+    ghost use Rattle.std.specs.Prelude.{◌++◌, [], ◌∷◌, take, length, IfOk, OnErr, OnOk};
+    ghost use Rattle.spec_fiber.specs.Evaluation.{value_at, held_context, held_switch, held_number};
 
     /// These variables.
     pub fn new(list: Vec<Value>) -> Variables
@@ -63,65 +64,22 @@ impl Variables {
         Ok(())
     }
 
-    /// Keeps the first slots alone, and puts these behind them, of which none are left.
+    /// A copy of them.
     ///
     /// # Errors
-    /// [`NoMemory`] where memory runs out; then they are as they were.
-    pub(crate) fn change(&mut self, keep: usize, values: &mut Vec<Value>) -> Result<(), NoMemory>
-        ensures ok { OnOk result (self.new ≡ take keep self.old ++ values.old.items) }
-        ensures err { OnErr result (self.new ≡ self.old) }
+    /// [`NoMemory`] where memory runs out.
+    pub(crate) fn try_clone(&self) -> Result<Variables, NoMemory>
+        ensures { IfOk result (λ it. it ≡ self.now) }
     {
-        self.list.reserve(values.len())?;
-        self.list.truncate(keep);
-        self.list.append(values).unwrap();
-        Ok(())
-    }
-}
-
-/// The variables in scope while a fiber settles: the first of those that it had, and those that came since.
-#[derive(Drop)]
-pub struct InScope<'v> {
-    kept: &'v [Value],
-    since: &'v [Value],
-}
-
-impl<'v> Model for InScope<'v> {
-    ghost use Rattle.std.specs.Prelude.{List, ◌++◌};
-    ghost use Rattle.eio_value.specs.declared.value.Value.{Value as Held};
-
-    ghost Value = { List Held };
-
-    ghost view = { λ inside. inside.kept.now ++ inside.since.now };
-}
-
-impl<'v> InScope<'v> {
-    ghost use Rattle.std.specs.Prelude.{◌++◌, length};
-    ghost use Rattle.spec_fiber.specs.Evaluation.{value_at, held_context, held_switch, held_number};
-
-    /// These, and those behind them.
-    pub fn new(kept: &'v [Value], since: &'v [Value]) -> InScope<'v>
-        ensures { result ≡ kept.now ++ since.now }
-    {
-        InScope { kept, since }
-    }
-
-    /// How many slots there are.
-    pub fn len(&self) -> usize
-        ensures { result ≡ length self.now }
-    {
-        self.kept.len() + self.since.len()
+        let list = self.list.as_slice().to_vec(*self.list.allocator())?;
+        Ok(Variables { list })
     }
 
     /// The value of a slot. One that there is not is unit.
     pub fn value(&self, slot: u32) -> Value
         ensures { result ≡ value_at self.now slot }
     {
-        let slot = slot as usize;
-        let found = if slot < self.kept.len() {
-            self.kept.get(slot)
-        } else {
-            self.since.get(slot - self.kept.len())
-        };
+        let found = self.list.get(slot as usize);
         found.copied().unwrap_or(Value::Unit)
     }
 

@@ -24,14 +24,14 @@ there c =
     ap (λ fibers. kept_at fibers c.args.number) (sym c.self.view_is)
     ∙ (seen_by_key c.self.inside.keys.items c.self.inside.kept c.self.inside.thrown c.args.number c.key_of-key.result (has c) ∙ ap (option_map (fiber_of (raised_in c.self.inside.thrown))) c.index_mut.ensures.value)
 
-pub settle-requires-clause-items : goal.settle-requires-clause-items
-settle-requires-clause-items c = c.requires.placed _ (there (goal.at.settle-requires-clause-items c).After-index_mut)
+pub settle_in-requires-clause-items : goal.settle_in-requires-clause-items
+settle_in-requires-clause-items c = c.requires.placed _ (there (goal.at.settle_in-requires-clause-items c).After-index_mut)
 
 pub invariant_of-self : goal.invariant_of-self
 invariant_of-self c = (
     let after = (goal.at.invariant_of-self c).After-index_mut in
     let number = its_number c.self.inside.keys.items c.self.inside.kept c.self.inside.thrown c.self.invariant.0 c.self.invariant.1 c.args.number c.key_of-key.result (has after) c.index_mut.result.now c.index_mut.ensures.value in
-    let now = record (c.index_mut.result.now) { frames = c.settle.new.self } in (
+    let now = record (c.index_mut.result.now) { frames = c.settle_in.new.self } in (
       changed_keyed c.self.inside.keys.items c.self.inside.kept c.self.invariant.0 c.args.number c.key_of-key.result (has after) now number,
       stayed_thrown c.self.inside.keys.items c.self.inside.kept c.self.inside.thrown c.self.invariant.0 c.self.invariant.1 c.args.number c.key_of-key.result (has after) c.index_mut.result.now c.index_mut.ensures.value now number refl,
     ))
@@ -43,7 +43,7 @@ settles_by (Err y) P Q R S then p q r = tt
 pub returns : goal.returns
 returns c = (
     let after = (goal.at.returns c).After-index_mut in
-    let reframes = reframed c.self.inside.keys.items c.self.inside.kept c.self.inside.thrown c.self.invariant.0 c.self.invariant.1 c.args.number c.key_of-key.result (has after) c.index_mut.result.now c.index_mut.ensures.value c.settle.new.self in
-    let then : List (Option KeptFiber) = fibers_in c.self.inside.keys.items (with_value c.self.inside.kept c.key_of-key.result (record (c.index_mut.result.now) { frames = c.settle.new.self })) c.self.inside.thrown in
-    subst (λ fibers. IfOk c.settle.result (λ call. Settles (nodes_of c.args.script.now) c.args.came.now c.args.number fibers c.args.texts.now c.args.serials.now call then c.settle.new.texts c.settle.new.serial)) c.self.view_is
-    (settles_by c.settle.result _ _ _ _ (λ call settled placed bodies. record { reframes = reframes; settles = settled; placed = placed; bodies = bodies; grown = c.settle.ensures.grown }) c.settle.ensures.settled c.settle.ensures.items c.settle.ensures.bodies))
+    let reframes = reframed c.self.inside.keys.items c.self.inside.kept c.self.inside.thrown c.self.invariant.0 c.self.invariant.1 c.args.number c.key_of-key.result (has after) c.index_mut.result.now c.index_mut.ensures.value c.settle_in.new.self in
+    let then : List (Option KeptFiber) = fibers_in c.self.inside.keys.items (with_value c.self.inside.kept c.key_of-key.result (record (c.index_mut.result.now) { frames = c.settle_in.new.self })) c.self.inside.thrown in
+    subst (λ fibers. IfOk c.settle_in.result (λ call. Settles (nodes_of c.args.script.now) c.args.came.now c.args.number fibers c.args.texts.now c.args.serials.now call then c.settle_in.new.texts c.settle_in.new.serial)) c.self.view_is
+    (settles_by c.settle_in.result _ _ _ _ (λ call settled placed bodies. record { reframes = reframes; settles = settled; placed = placed; bodies = bodies; grown = c.settle_in.ensures.grown }) c.settle_in.ensures.settled c.settle_in.ensures.items c.settle_in.ensures.bodies))
