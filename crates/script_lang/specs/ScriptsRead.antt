@@ -16,7 +16,7 @@ use Rattle.script_forms.specs.Faults.{Fails}
 use Rattle.script_forms.specs.declared.fault.ScriptFault.{ScriptFault}
 use Rattle.script_forms.specs.declared.fault.ScriptFault.TheVariants.{NoMemory}
 use Rattle.script_lang.specs.declared.reader.Bodies.{Bodies}
-use Rattle.script_lang.specs.declared.reader.Root.{Root}
+use Rattle.script_lang.specs.declared.reader.Heading.{Heading}
 
 -- the tree is this script, or refused so; where memory ran out, nothing is said
 abbrev pub Reads : Result Script ScriptFault → Result Script model.ScriptFault → Type 0
@@ -36,8 +36,8 @@ pub record HasRoot (read : Result Script model.ScriptFault) (version bodies : �
   pub count : bodies ≡ bodies_of parts
   pub gives : read ≡ script_of_parts version parts
 
-abbrev pub Roots : Result Root ScriptFault → Result Script model.ScriptFault → (left : Trees) → Type 0
-Roots (Ok root) read left = HasRoot read root.version root.bodies left
+abbrev pub Roots : Result Heading ScriptFault → Result Script model.ScriptFault → (left : Trees) → Type 0
+Roots (Ok heading) read left = HasRoot read heading.version heading.bodies left
 Roots (Err f) read left = Fails f read
 
 -- the first `main` of a row was looked for, and bodies counted behind it

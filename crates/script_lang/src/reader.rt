@@ -127,7 +127,7 @@ fn outline_of(
 
 /// What stands before the declarations of a script.
 #[derive(Clone, Copy)]
-pub(crate) struct Root {
+pub(crate) struct Heading {
     /// The version of the notation.
     pub(crate) version: u32,
     /// How many bodies a worker may name.
@@ -135,7 +135,7 @@ pub(crate) struct Root {
 }
 
 /// What stands before the declarations.
-fn root(cursor: &mut Cursor) -> Result<Root, ScriptFault>
+fn root(cursor: &mut Cursor) -> Result<Heading, ScriptFault>
     requires { has_tree cursor.old ≡ true }
     ensures { Roots result (script_of (tree_ahead cursor.old)) (ahead cursor.new) }
 {
@@ -156,7 +156,7 @@ fn root(cursor: &mut Cursor) -> Result<Root, ScriptFault>
     let Some(version) = version_of(number.number) else {
         return Err(ScriptFault::Shape(number.at));
     };
-    Ok(Root { version, bodies })
+    Ok(Heading { version, bodies })
 }
 
 /// The version that a number stands for, if it is one that is read.
