@@ -1,5 +1,5 @@
 -- What was read beside a draft, and the draft, are the parts of a script.
-use Rattle.std.proofs.Common.{◌≡◌, ◌<◌, ◌^◌, length, ap, ◌∙◌}
+use Rattle.std.proofs.Common.{◌≡◌, ◌<◌, ◌^◌, length, ◌∙◌}
 use Rattle.spec_script.specs.Scripts.{Script}
 use Rattle.script_forms.specs.Failures.{HasFailures}
 use Rattle.script_draft.specs.Drafts.{Drafted}

@@ -81,13 +81,7 @@ fn read_outline(tree: &Tree, draft: &mut Draft) -> Result<Outline, ScriptFault>
     let limits = limits_of(found.version);
     let declared = read_declarations(&mut cursor, draft, limits, found.bodies)?;
     let bodies = bodies_behind(&cursor, draft, limits, &declared)?;
-    Ok(outline_of(
-        tree,
-        draft.alloc(),
-        found.version,
-        declared,
-        bodies,
-    )?)
+    Ok(outline_of(tree, draft.alloc(), found.version, declared, bodies)?)
 }
 
 /// The bodies behind these declarations, of which main comes next.

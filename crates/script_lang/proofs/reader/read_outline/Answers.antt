@@ -1,6 +1,6 @@
-use Rattle.std.proofs.Common.{refl, ap, ◌∙◌}
+use Rattle.std.proofs.Common.{refl}
 use Rattle.std.proofs.lemmas.Result.{err_from_is_err_and}
-use Rattle.spec_script.specs.Scripts.{script_of, script_by}
+use Rattle.spec_script.specs.Scripts.{script_by}
 use Rattle.script_declarations.specs.DeclarationsRead.{declared_of}
 use Rattle.script_draft.specs.Drafts.{made_of}
 use Rattle.script_lang.proofs.ScriptsWhole.{root_here, tree_here, parts_here, main_here, declarations_fail, bodies_stop, script_read, nodes_read}
