@@ -5,7 +5,8 @@ use Rattle.std.specs.Prelude.{◌&&◌, nat_lt, not, codes, option_map}
 use Rattle.spec_script.specs.Faults as model
 use Rattle.spec_script.specs.Results.{◌>>=◌}
 use Rattle.spec_script.specs.Reads.{Made, Reads, ◌>>>◌, gives, requires_that}
-use Rattle.spec_script.specs.Limits.{most_workers, most_declarations}
+use Rattle.spec_script.specs.declared.Limits.{Limits}
+use Rattle.spec_script.specs.Limits.{most_workers}
 use Rattle.spec_script.specs.Trees.{Tree, Word, Number, Text, Branch, Trees, Nil, And, place_of}
 use Rattle.spec_script.specs.Scripts.{Parts, parts_of, items_behind, with_first}
 use Rattle.spec_script.specs.Declarations as declarations
@@ -159,28 +160,28 @@ nothing_fits object.Flow = refl
 nothing_fits object.Dir = refl
 
 -- no form fits
-pub no_declaration : (bodies : ℕ) (before : declarations.Declared) (tree : Tree) (made : Made) → form_at tree ≡ None → declaration bodies before tree made ≡ Err (model.Shape (place_of tree))
+pub no_declaration : (limits : Limits) (bodies : ℕ) (before : declarations.Declared) (tree : Tree) (made : Made) → form_at tree ≡ None → declaration limits bodies before tree made ≡ Err (model.Shape (place_of tree))
 unfolding declaration
-no_declaration bodies before (Word at w) made e = refl
-no_declaration bodies before (Number at z) made e = refl
-no_declaration bodies before (Text at w) made e = refl
-no_declaration bodies before (Branch at Nil) made e = refl
-no_declaration bodies before (Branch at (And (Word place w) row)) made e = cc
-no_declaration bodies before (Branch at (And (Number place z) row)) made e = refl
-no_declaration bodies before (Branch at (And (Text place w) row)) made e = refl
-no_declaration bodies before (Branch at (And (Branch place inner) row)) made e = refl
+no_declaration limits bodies before (Word at w) made e = refl
+no_declaration limits bodies before (Number at z) made e = refl
+no_declaration limits bodies before (Text at w) made e = refl
+no_declaration limits bodies before (Branch at Nil) made e = refl
+no_declaration limits bodies before (Branch at (And (Word place w) row)) made e = cc
+no_declaration limits bodies before (Branch at (And (Number place z) row)) made e = refl
+no_declaration limits bodies before (Branch at (And (Text place w) row)) made e = refl
+no_declaration limits bodies before (Branch at (And (Branch place inner) row)) made e = refl
 
 -- no such word
-pub declaration_unknown : (bodies : ℕ) (before : declarations.Declared) (at place : ℕ) (word : List ℕ) (items : Trees) (made : Made) → None ≡ declaration_form_of word → declaration bodies before (Branch at (And (Word place word) items)) made ≡ Err (model.Shape at)
+pub declaration_unknown : (limits : Limits) (bodies : ℕ) (before : declarations.Declared) (at place : ℕ) (word : List ℕ) (items : Trees) (made : Made) → None ≡ declaration_form_of word → declaration limits bodies before (Branch at (And (Word place word) items)) made ≡ Err (model.Shape at)
 unfolding declaration
-declaration_unknown bodies before at place word Nil made e = refl
-declaration_unknown bodies before at place word (And name items) made e = rw (← e) refl
+declaration_unknown limits bodies before at place word Nil made e = refl
+declaration_unknown limits bodies before at place word (And name items) made e = rw (← e) refl
 
 -- another number of items
-pub declaration_misfit : (bodies : ℕ) (before : declarations.Declared) (at place : ℕ) (word : List ℕ) (it : Object) (count : ℕ) (items : Trees) (made : Made) → Some (form_of it) ≡ declaration_form_of word → count ≡ min 3 (tree_count items) → takes it count ≡ false → declaration bodies before (Branch at (And (Word place word) items)) made ≡ Err (model.Shape at)
+pub declaration_misfit : (limits : Limits) (bodies : ℕ) (before : declarations.Declared) (at place : ℕ) (word : List ℕ) (it : Object) (count : ℕ) (items : Trees) (made : Made) → Some (form_of it) ≡ declaration_form_of word → count ≡ min 3 (tree_count items) → takes it count ≡ false → declaration limits bodies before (Branch at (And (Word place word) items)) made ≡ Err (model.Shape at)
 unfolding declaration
-declaration_misfit bodies before at place word it count Nil made e counted misfit = refl
-declaration_misfit bodies before at place word it count (And name items) made e counted misfit =
+declaration_misfit limits bodies before at place word it count Nil made e counted misfit = refl
+declaration_misfit limits bodies before at place word it count (And name items) made e counted misfit =
     let fails : takes it (tree_count items + 1) ≡ false = sym (taken it (tree_count items + 1)) ∙ ap (takes it) (sym counted) ∙ misfit in
     rw (← e, misfits it bodies items fails) refl
 
@@ -188,29 +189,29 @@ all_items : (it : Object) (count : ℕ) (items : Trees) → count ≡ min 3 (tre
 all_items it count items counted fit = sym (taken it (tree_count items)) ∙ ap (takes it) (sym counted) ∙ fit
 
 -- one too many
-pub declaration_full : (bodies : ℕ) (before : declarations.Declared) (at place : ℕ) (word : List ℕ) (it : Object) (count : ℕ) (items : Trees) (made : Made) → Some (form_of it) ≡ declaration_form_of word → count ≡ min 3 (tree_count items) → takes it count ≡ true → not (nat_lt (length before.declarations) most_declarations) ≡ true → declaration bodies before (Branch at (And (Word place word) items)) made ≡ Err (model.Size at)
+pub declaration_full : (limits : Limits) (bodies : ℕ) (before : declarations.Declared) (at place : ℕ) (word : List ℕ) (it : Object) (count : ℕ) (items : Trees) (made : Made) → Some (form_of it) ≡ declaration_form_of word → count ≡ min 3 (tree_count items) → takes it count ≡ true → not (nat_lt (length before.declarations) limits.declarations) ≡ true → declaration limits bodies before (Branch at (And (Word place word) items)) made ≡ Err (model.Size at)
 unfolding declaration
-declaration_full bodies before at place word it count Nil made e counted fit full = absurd (false≢true (sym (nothing_fits it) ∙ all_items it count Nil counted fit))
-declaration_full bodies before at place word it count (And name items) made e counted fit full =
-    let less : nat_lt (length before.declarations) most_declarations ≡ false = not_by (nat_lt (length before.declarations) most_declarations) true full in
+declaration_full limits bodies before at place word it count Nil made e counted fit full = absurd (false≢true (sym (nothing_fits it) ∙ all_items it count Nil counted fit))
+declaration_full limits bodies before at place word it count (And name items) made e counted fit full =
+    let less : nat_lt (length before.declarations) limits.declarations ≡ false = not_by (nat_lt (length before.declarations) limits.declarations) true full in
     rw (← e, fits it bodies items (all_items it count (And name items) counted fit), less) refl
 
 -- a form more, whose name and items are read then
-formed_then : (bodies : ℕ) (before : declarations.Declared) (at place : ℕ) (word : List ℕ) (it : Object) (items : Trees) (made : Made) → Some (form_of it) ≡ declaration_form_of word → takes it (tree_count items) ≡ true → nat_lt (length before.declarations) most_declarations ≡ true → declaration bodies before (Branch at (And (Word place word) items)) made ≡ named_read (kind_of (kind_in it)) bodies before items (record made { formed = made.formed ++ record { at = at; feature = feature_in it; mocked = mocked_in it } ∷ [] })
+formed_then : (limits : Limits) (bodies : ℕ) (before : declarations.Declared) (at place : ℕ) (word : List ℕ) (it : Object) (items : Trees) (made : Made) → Some (form_of it) ≡ declaration_form_of word → takes it (tree_count items) ≡ true → nat_lt (length before.declarations) limits.declarations ≡ true → declaration limits bodies before (Branch at (And (Word place word) items)) made ≡ named_read (kind_of (kind_in it)) bodies before items (record made { formed = made.formed ++ record { at = at; feature = feature_in it; mocked = mocked_in it } ∷ [] })
 unfolding declaration
-formed_then bodies before at place word it Nil made e fit less = absurd (false≢true (sym (nothing_fits it) ∙ fit))
-formed_then bodies before at place word it (And name items) made e fit less = rw (← e, fits it bodies items fit, less) refl
+formed_then limits bodies before at place word it Nil made e fit less = absurd (false≢true (sym (nothing_fits it) ∙ fit))
+formed_then limits bodies before at place word it (And name items) made e fit less = rw (← e, fits it bodies items fit, less) refl
 
 -- the same answer from the same step
 pub makes_same : {X A : Type 0} (view : X → A) (r : Result X ScriptFault) (all rest : Reads A) (old mid new : Drafted) → all (made_of old) ≡ rest (made_of mid) → mid.nodes ≡ old.nodes → Makes view r rest mid new → Makes view r all old new
 makes_same view (Ok x) all rest old mid new e nodes read = (e ∙ read.0, read.1 ∙ nodes)
 makes_same view (Err f) all rest old mid new e nodes read = rw e read
 
-pub declaration_read : {X : Type 0} (view : X → declarations.Declared) (r : Result X ScriptFault) (bodies : ℕ) (before : declarations.Declared) (at place : ℕ) (word : List ℕ) (it : Object) (count : ℕ) (items : Trees) (feature : Feature) (mocked : Bool) (old mid new : Drafted) → Some (form_of it) ≡ declaration_form_of word → count ≡ min 3 (tree_count items) → takes it count ≡ true → not (nat_lt (length before.declarations) most_declarations) ≡ false → feature ≡ feature_in it → mocked ≡ mocked_in it → mid ≡ record old { formed = old.formed ++ record { at = at; feature = feature; mocked = mocked } ∷ [] } → Makes view r (named_read (kind_of (kind_in it)) bodies before items) mid new → Makes view r (declaration bodies before (Branch at (And (Word place word) items))) old new
-declaration_read view r bodies before at place word it count items feature mocked old mid new e counted fit full f m formed read =
-    let less : nat_lt (length before.declarations) most_declarations ≡ true = not_by (nat_lt (length before.declarations) most_declarations) false full in
-    let same : declaration bodies before (Branch at (And (Word place word) items)) (made_of old) ≡ named_read (kind_of (kind_in it)) bodies before items (made_of mid) = rw (formed, f, m) (formed_then bodies before at place word it items (made_of old) e (all_items it count items counted fit) less) in
-    makes_same view r (declaration bodies before (Branch at (And (Word place word) items))) (named_read (kind_of (kind_in it)) bodies before items) old mid new same (rw formed refl) read
+pub declaration_read : {X : Type 0} (view : X → declarations.Declared) (r : Result X ScriptFault) (limits : Limits) (bodies : ℕ) (before : declarations.Declared) (at place : ℕ) (word : List ℕ) (it : Object) (count : ℕ) (items : Trees) (feature : Feature) (mocked : Bool) (old mid new : Drafted) → Some (form_of it) ≡ declaration_form_of word → count ≡ min 3 (tree_count items) → takes it count ≡ true → not (nat_lt (length before.declarations) limits.declarations) ≡ false → feature ≡ feature_in it → mocked ≡ mocked_in it → mid ≡ record old { formed = old.formed ++ record { at = at; feature = feature; mocked = mocked } ∷ [] } → Makes view r (named_read (kind_of (kind_in it)) bodies before items) mid new → Makes view r (declaration limits bodies before (Branch at (And (Word place word) items))) old new
+declaration_read view r limits bodies before at place word it count items feature mocked old mid new e counted fit full f m formed read =
+    let less : nat_lt (length before.declarations) limits.declarations ≡ true = not_by (nat_lt (length before.declarations) limits.declarations) false full in
+    let same : declaration limits bodies before (Branch at (And (Word place word) items)) (made_of old) ≡ named_read (kind_of (kind_in it)) bodies before items (made_of mid) = rw (formed, f, m) (formed_then limits bodies before at place word it items (made_of old) e (all_items it count items counted fit) less) in
+    makes_same view r (declaration limits bodies before (Branch at (And (Word place word) items))) (named_read (kind_of (kind_in it)) bodies before items) old mid new same (rw formed refl) read
 
 -- ## Where the declarations end
 
@@ -250,24 +251,24 @@ from_passed ps new more past = sym (ap from_main (next_passed ps new (goes_on ps
 before_passed : (ps new : List Piece) → ends (ahead ps) ≡ false → IsPast ps new → before_main (ahead ps) ≡ And (tree_ahead ps) (before_main (ahead new))
 before_passed ps new more past = ap before_main (next_passed ps new (goes_on ps more) past) ∙ more_before (tree_ahead ps) (ahead new) (no_main ps new more past)
 
-pub declared_more : (bodies : ℕ) (before after : declarations.Declared) (ps new : List Piece) (made then : Made) → ends (ahead ps) ≡ false → IsPast ps new → declaration bodies before (tree_ahead ps) made ≡ Ok (after, then) → declarations_behind bodies before (before_main (ahead ps)) made ≡ declarations_behind bodies after (before_main (ahead new)) then
+pub declared_more : (limits : Limits) (bodies : ℕ) (before after : declarations.Declared) (ps new : List Piece) (made then : Made) → ends (ahead ps) ≡ false → IsPast ps new → declaration limits bodies before (tree_ahead ps) made ≡ Ok (after, then) → declarations_behind limits bodies before (before_main (ahead ps)) made ≡ declarations_behind limits bodies after (before_main (ahead new)) then
 unfolding declarations_behind
-declared_more bodies before after ps new made then more past read = rw (before_passed ps new more past, read) refl
+declared_more limits bodies before after ps new made then more past read = rw (before_passed ps new more past, read) refl
 
 -- the same where nothing is known of the place behind
-declared_stops_at : (bodies : ℕ) (before : declarations.Declared) (tree : Tree) (row : Trees) (made : Made) (f : ScriptFault) → Fails f (declaration bodies before tree made) → Fails f (declarations_behind bodies before (And tree row) made)
+declared_stops_at : (limits : Limits) (bodies : ℕ) (before : declarations.Declared) (tree : Tree) (row : Trees) (made : Made) (f : ScriptFault) → Fails f (declaration limits bodies before tree made) → Fails f (declarations_behind limits bodies before (And tree row) made)
 unfolding declarations_behind
-declared_stops_at bodies before tree row made f fails = fails_first f (declaration bodies before tree made) _ fails
+declared_stops_at limits bodies before tree row made f fails = fails_first f (declaration limits bodies before tree made) _ fails
 
-pub declared_stops : (bodies : ℕ) (before : declarations.Declared) (ps : List Piece) (made : Made) (f : ScriptFault) (whole : Result (declarations.Declared × Made) model.ScriptFault) → ends (ahead ps) ≡ false → Fails f (declaration bodies before (tree_ahead ps) made) → whole ≡ declarations_behind bodies before (before_main (ahead ps)) made → Fails f whole
-declared_stops bodies before ps made f whole more fails e =
+pub declared_stops : (limits : Limits) (bodies : ℕ) (before : declarations.Declared) (ps : List Piece) (made : Made) (f : ScriptFault) (whole : Result (declarations.Declared × Made) model.ScriptFault) → ends (ahead ps) ≡ false → Fails f (declaration limits bodies before (tree_ahead ps) made) → whole ≡ declarations_behind limits bodies before (before_main (ahead ps)) made → Fails f whole
+declared_stops limits bodies before ps made f whole more fails e =
     let first = next_here ps (goes_on ps more) in
     let other : is_main (tree_ahead ps) ≡ false = ap ends (sym first) ∙ more in
-    rw (e, first, more_before (tree_ahead ps) (rest_of (ahead ps)) other) (declared_stops_at bodies before (tree_ahead ps) (before_main (rest_of (ahead ps))) made f fails)
+    rw (e, first, more_before (tree_ahead ps) (rest_of (ahead ps)) other) (declared_stops_at limits bodies before (tree_ahead ps) (before_main (rest_of (ahead ps))) made f fails)
 
-pub declared_end : (bodies : ℕ) (before : declarations.Declared) (row : Trees) (made : Made) → ends row ≡ true → declarations_behind bodies before (before_main row) made ≡ Ok (before, made)
+pub declared_end : (limits : Limits) (bodies : ℕ) (before : declarations.Declared) (row : Trees) (made : Made) → ends row ≡ true → declarations_behind limits bodies before (before_main row) made ≡ Ok (before, made)
 unfolding declarations_behind
-declared_end bodies before row made e = rw (is_end_before row e) refl
+declared_end limits bodies before row made e = rw (is_end_before row e) refl
 
 -- ## The parts of a root
 

@@ -3,7 +3,6 @@
 
 ghost use Rattle.std.specs.Prelude.{◌≡◌, ◌+◌, ℕ, IfOk, IfErr, true, not, nat_lt, is_some, length, option_map};
 ghost use Rattle.spec_script.specs.Declarations as model;
-ghost use Rattle.spec_script.specs.Limits.{most_declarations};
 ghost use Rattle.spec_script.specs.Reads as reads;
 ghost use Rattle.spec_script.specs.Scopes.{named_in};
 ghost use Rattle.spec_script.specs.Trees as trees;
@@ -18,11 +17,8 @@ use crate::flow_steps::flow_steps;
 use eio_value::{NoMemory, TextId};
 use script_draft::{Cursor, Draft, Kind, Named, Number, Word, named_in, number_within};
 use script_forms::{Decl, Numbers, ScriptFault, begun};
-use spec_script::Feature;
+use spec_script::{Feature, Limits};
 use std::alloc::Global;
-
-/// The most declarations of a script.
-const MOST_DECLARATIONS: usize = 64;
 
 /// The most workers of an executor.
 const MOST_WORKERS: usize = 16;
@@ -122,7 +118,6 @@ pub struct Declared<'t> {
 impl<'t> Declared<'t> {
     ghost use Rattle.std.specs.Prelude.{◌≡◌, not, nat_lt, is_some, length, map, OnOk};
     ghost use Rattle.spec_script.specs.Declarations as model;
-    ghost use Rattle.spec_script.specs.Limits.{most_declarations};
     ghost use Rattle.spec_script.specs.Scopes.{named_in};
     ghost use Rattle.script_forms.specs.Declaring.{declaration_of};
     ghost use Rattle.script_declarations.specs.DeclarationsRead.{declared_of};
@@ -140,10 +135,10 @@ impl<'t> Declared<'t> {
     }
 
     /// Whether as many declarations were read as may be.
-    fn is_full(&self) -> bool
-        ensures { result ≡ not (nat_lt (length (declared_of self.now).declarations) most_declarations) }
+    fn is_full(&self, limits: Limits) -> bool
+        ensures { result ≡ not (nat_lt (length (declared_of self.now).declarations) limits.declarations) }
     {
-        self.declarations.len() >= MOST_DECLARATIONS
+        self.declarations.len() >= limits.declarations as usize
     }
 
     /// Whether a name is taken.
@@ -177,21 +172,23 @@ pub fn is_at_end(cursor: &Cursor) -> bool
     }
 }
 
-/// The declarations up to the first list that begins with `main`; `bodies` is how many bodies a worker may name.
+/// The declarations up to the first list that begins with `main`; as many as `limits` says at most. `bodies` is how many
+/// bodies a worker may name.
 ///
 /// # Errors
 /// The fault of the first refused declaration.
 pub fn declarations<'t>(
     cursor: &mut Cursor<'t>,
     draft: &mut Draft,
+    limits: Limits,
     bodies: u32,
 ) -> Result<Declared<'t>, ScriptFault>
     ensures end { IfOk result (λ _. IsAtMain cursor.old cursor.new) }
-    ensures reads { Makes declared_of result (model.declarations_behind bodies model.nothing_declared (before_main (ahead cursor.old))) draft.old draft.new }
+    ensures reads { Makes declared_of result (model.declarations_behind limits bodies model.nothing_declared (before_main (ahead cursor.old))) draft.old draft.new }
 {
     let mut declared = Declared::new(draft.alloc());
     while !is_at_end(cursor) {
-        declaration(cursor, draft, bodies, &mut declared)?;
+        declaration(cursor, draft, limits, bodies, &mut declared)?;
     }
     Ok(declared)
 }
@@ -200,16 +197,17 @@ pub fn declarations<'t>(
 fn declaration<'t>(
     cursor: &mut Cursor<'t>,
     draft: &mut Draft,
+    limits: Limits,
     bodies: u32,
     declared: &mut Declared<'t>,
 ) -> Result<(), ScriptFault>
     requires { has_tree cursor.old ≡ true }
     ensures past { IfOk result (λ _. IsPast cursor.old cursor.new) }
-    ensures reads { Makes (λ _. declared_of declared.new) result (model.declaration bodies (declared_of declared.old) (tree_ahead cursor.old)) draft.old draft.new }
+    ensures reads { Makes (λ _. declared_of declared.new) result (model.declaration limits bodies (declared_of declared.old) (tree_ahead cursor.old)) draft.old draft.new }
 {
     let at = cursor.place();
     match cursor.enter() {
-        Some(head) => form(cursor, draft, bodies, declared, &head),
+        Some(head) => form(cursor, draft, limits, bodies, declared, &head),
         None => Err(ScriptFault::Shape(at)),
     }
 }
@@ -218,12 +216,13 @@ fn declaration<'t>(
 fn form<'t>(
     cursor: &mut Cursor<'t>,
     draft: &mut Draft,
+    limits: Limits,
     bodies: u32,
     declared: &mut Declared<'t>,
     head: &Word<'t>,
 ) -> Result<(), ScriptFault>
     ensures behind { IfOk result (λ _. IsBehind cursor.old cursor.new) }
-    ensures reads { (place : ℕ) → Makes (λ _. declared_of declared.new) result (model.declaration bodies (declared_of declared.old) (trees.Branch head.now.at (trees.And (trees.Word place head.now.word.now) (ahead cursor.old)))) draft.old draft.new }
+    ensures reads { (place : ℕ) → Makes (λ _. declared_of declared.new) result (model.declaration limits bodies (declared_of declared.old) (trees.Branch head.now.at (trees.And (trees.Word place head.now.word.now) (ahead cursor.old)))) draft.old draft.new }
 {
     let Some(it) = object_of(head.word) else {
         return Err(ScriptFault::Shape(head.at));
@@ -231,7 +230,7 @@ fn form<'t>(
     if !takes(it, cursor.count(3)) {
         return Err(ScriptFault::Shape(head.at));
     }
-    if declared.is_full() {
+    if declared.is_full(limits) {
         return Err(ScriptFault::Size(head.at));
     }
     draft.form(head.at, feature_of(it), is_mocked(it))?;

@@ -1,5 +1,5 @@
 -- What was read beside a draft, and the draft, are the parts of a script.
-use Rattle.std.proofs.Common.{◌≡◌, ◌<◌, ◌^◌, length, ap, ◌∙◌}
+use Rattle.std.proofs.Common.{◌≡◌, ◌<◌, ◌^◌, length, ◌∙◌}
 use Rattle.spec_script.specs.Scripts.{Script}
 use Rattle.script_forms.specs.Failures.{HasFailures}
 use Rattle.script_draft.specs.Drafts.{Drafted}
@@ -21,6 +21,7 @@ pub record IsFinished (made : Finished) (draft : Drafted) : Type 0 where
 abbrev pub parted : Outline → Finished → Parts
 parted outline made = record {
   tree = outline.tree;
+  version = outline.version;
   names = outline.names;
   declarations = outline.declarations;
   nodes = made.nodes;
@@ -36,6 +37,7 @@ pub is_script_of : (script : Script) (outline : Outline) (made : Finished) (draf
 is_script_of script outline made draft parts is finished e =
     rw e (record {
       read = is.read;
+      version = is.version;
       names = is.names;
       declarations = is.declarations;
       nodes = finished.nodes ∙ is.nodes;

@@ -10,8 +10,8 @@ use Rattle.spec_script.specs.Scopes.{Scope}
 use Rattle.spec_script.specs.Syntax.{Block, Begins, Statements}
 use Rattle.spec_script.specs.Statements.{statements}
 use Rattle.spec_script.specs.Declarations.{Declared}
-use Rattle.spec_script.specs.Scripts.{script_of, root_of, script_of_parts, is_one, Parts, with_first, items_behind, parts_of, domains_in, body, body_scope, domains, first_place}
-use Rattle.spec_script.specs.Limits.{most_bodies}
+use Rattle.spec_script.specs.Scripts.{script_of, root_of, script_of_parts, version_of, Parts, with_first, items_behind, parts_of, domains_in, body, body_scope, domains, first_place}
+use Rattle.spec_script.specs.declared.Limits.{Limits}
 use Rattle.script_tree.specs.Pieces.{Piece, Words, Numbers, Texts, Opens as Opened, Closes, first, others, first_tree}
 use Rattle.script_draft.specs.Ahead.{ahead, around, rest_of, tree_ahead, has_tree, behind, form_at, number_at, IsPast, IsInside, IsInForm, IsBehind, IsWithin}
 use Rattle.script_statements.specs.Blocks.{HasBlock, Blocked}
@@ -175,15 +175,15 @@ leaf_skipped (Some at) b c0 c1 c2 some e none met passed = absurd (false≢true 
 -- ## Bodies, one behind the other
 
 -- some bodies were read, with these numbers; what is left gives the whole
-pub record IsAmidBodies (declared : Declared) (main all : Trees) (old : Drafted) (numbers : List ℕ) (left : Trees) (now : Drafted) : Type 0 where
+pub record IsAmidBodies (limits : Limits) (declared : Declared) (main all : Trees) (old : Drafted) (numbers : List ℕ) (left : Trees) (now : Drafted) : Type 0 where
   pub after : List Block → List Block
-  pub ok : (more : List Block) (made : Made) → domains declared (length numbers) left (made_of now) ≡ Ok (more, made) → bodies_read declared main all (made_of old) ≡ Ok (after more, made)
-  pub fails : (f : ScriptFault) → Fails f (domains declared (length numbers) left (made_of now)) → Fails f (bodies_read declared main all (made_of old))
+  pub ok : (more : List Block) (made : Made) → domains limits declared (length numbers) left (made_of now) ≡ Ok (more, made) → bodies_read limits declared main all (made_of old) ≡ Ok (after more, made)
+  pub fails : (f : ScriptFault) → Fails f (domains limits declared (length numbers) left (made_of now)) → Fails f (bodies_read limits declared main all (made_of old))
   pub named : (more : List Block) → numbers ++ map number_of more ≡ map number_of (after more)
   pub grows : (more : List Block) → now.nodes ++ flat_bodies (length now.nodes) more ≡ old.nodes ++ flat_bodies (length old.nodes) (after more)
 
-pub main_fails : (declared : Declared) (scope : Scope) (main all : Trees) (made : Made) (f : ScriptFault) → scope ≡ body_scope declared → Fails f (statements scope main made) → Fails f (bodies_read declared main all made)
-main_fails declared scope main all made f same e = fails_first f (body declared main made) _ (fails_first f (statements (body_scope declared) main made) _ (rw same at e))
+pub main_fails : (limits : Limits) (declared : Declared) (scope : Scope) (main all : Trees) (made : Made) (f : ScriptFault) → scope ≡ body_scope declared → Fails f (statements scope main made) → Fails f (bodies_read limits declared main all made)
+main_fails limits declared scope main all made f same e = fails_first f (body declared main made) _ (fails_first f (statements (body_scope declared) main made) _ (rw same at e))
 
 body_grows : (now next : Drafted) (items : Statements) (more : List Block) → next.nodes ≡ now.nodes ++ flat_statements (length now.nodes) items → next.nodes ++ flat_bodies (length next.nodes) more ≡ now.nodes ++ flat_bodies (length now.nodes) (Begins (length now.nodes) items ∷ more)
 unfolding flat_bodies
@@ -192,59 +192,59 @@ body_grows now next items more e =
     let count : length next.nodes ≡ length now.nodes + length these = ap length e ∙ length-append now.nodes these in
     rw (count, e) (append_assoc now.nodes these (flat_bodies (length now.nodes + length these) more))
 
-pub bodies_first : (declared : Declared) (scope : Scope) (main all : Trees) (old now : Drafted) (numbers : List ℕ) → scope ≡ body_scope declared → HasGrown (statements scope main) (flat_statements (length old.nodes)) old now → numbers ≡ length old.nodes ∷ [] → IsAmidBodies declared main all old numbers all now
-bodies_first declared scope main all old now numbers same read is =
+pub bodies_first : (limits : Limits) (declared : Declared) (scope : Scope) (main all : Trees) (old now : Drafted) (numbers : List ℕ) → scope ≡ body_scope declared → HasGrown (statements scope main) (flat_statements (length old.nodes)) old now → numbers ≡ length old.nodes ∷ [] → IsAmidBodies limits declared main all old numbers all now
+bodies_first limits declared scope main all old now numbers same read is =
     let given : statements (body_scope declared) main (made_of old) ≡ Ok (read.value, made_of now) = ap (λ s. statements s main (made_of old)) (sym same) ∙ read.gives in
     let one : length numbers ≡ 1 = ap length is in
     record {
       after = λ more. Begins (length old.nodes) read.value ∷ more;
       ok = λ more made e. rw (given, rw one at e) refl;
-      fails = λ f e. rw given (fails_first f (domains declared 1 all (made_of now)) _ (rw one at e));
+      fails = λ f e. rw given (fails_first f (domains limits declared 1 all (made_of now)) _ (rw one at e));
       named = λ more. rw is refl;
       grows = λ more. body_grows old now read.value more read.grows;
     }
 
-room_by : (declared : Declared) (n at : ℕ) (row items : Trees) (b : Bool) (made : Made) → (requires_that b (model.Size at) >>> λ _. body declared items >>> λ one. domains declared (n + 1) row >>> λ more. gives (one ∷ more)) made ≡ (domain_by (body_scope declared) (not b) at (Some items) >>> λ one. domains declared (n + 1) row >>> λ more. gives (one ∷ more)) made
-room_by declared n at row items true made = refl
-room_by declared n at row items false made = refl
+room_by : (limits : Limits) (declared : Declared) (n at : ℕ) (row items : Trees) (b : Bool) (made : Made) → (requires_that b (model.Size at) >>> λ _. body declared items >>> λ one. domains limits declared (n + 1) row >>> λ more. gives (one ∷ more)) made ≡ (domain_by (body_scope declared) (not b) at (Some items) >>> λ one. domains limits declared (n + 1) row >>> λ more. gives (one ∷ more)) made
+room_by limits declared n at row items true made = refl
+room_by limits declared n at row items false made = refl
 
 abbrev Same : Reads (List Block) → Reads (List Block) → Made → Type 0
 Same a b made = a made ≡ b made
 
-step_by : (declared : Declared) (n at : ℕ) (row : Trees) (o : Option Trees) (made : Made) → Same (elim o [ None ↦ refuses (model.Shape at) | Some items ↦ (requires_that (nat_lt n most_bodies) (model.Size at) >>> λ _. body declared items >>> λ one. domains declared (n + 1) row >>> λ more. gives (one ∷ more)) ]) (domain_by (body_scope declared) (not (nat_lt n most_bodies)) at o >>> λ one. domains declared (n + 1) row >>> λ more. gives (one ∷ more)) made
-step_by declared n at row None made = refl
-step_by declared n at row (Some items) made = room_by declared n at row items (nat_lt n most_bodies) made
+step_by : (limits : Limits) (declared : Declared) (n at : ℕ) (row : Trees) (o : Option Trees) (made : Made) → Same (elim o [ None ↦ refuses (model.Shape at) | Some items ↦ (requires_that (nat_lt n limits.bodies) (model.Size at) >>> λ _. body declared items >>> λ one. domains limits declared (n + 1) row >>> λ more. gives (one ∷ more)) ]) (domain_by (body_scope declared) (not (nat_lt n limits.bodies)) at o >>> λ one. domains limits declared (n + 1) row >>> λ more. gives (one ∷ more)) made
+step_by limits declared n at row None made = refl
+step_by limits declared n at row (Some items) made = room_by limits declared n at row items (nat_lt n limits.bodies) made
 
-domains_step : (declared : Declared) (n : ℕ) (tree : Tree) (row : Trees) (made : Made) → domains declared n (And tree row) made ≡ (domain_of (body_scope declared) (not (nat_lt n most_bodies)) tree >>> λ one. domains declared (n + 1) row >>> λ more. gives (one ∷ more)) made
+domains_step : (limits : Limits) (declared : Declared) (n : ℕ) (tree : Tree) (row : Trees) (made : Made) → domains limits declared n (And tree row) made ≡ (domain_of (body_scope declared) (not (nat_lt n limits.bodies)) tree >>> λ one. domains limits declared (n + 1) row >>> λ more. gives (one ∷ more)) made
 unfolding domains
-domains_step declared n tree row made = step_by declared n (place_of tree) row (items_behind (codes "domain") tree) made
+domains_step limits declared n tree row made = step_by limits declared n (place_of tree) row (items_behind (codes "domain") tree) made
 
-pub bodies_next : (declared : Declared) (scope : Scope) (main all : Trees) (c c' : List Piece) (full : Bool) (numbers next : List ℕ) (old now new : Drafted) → scope ≡ body_scope declared → has_tree c ≡ true → IsPast c c' → IsAmidBodies declared main all old numbers (ahead c) now → next ≡ numbers ++ length now.nodes ∷ [] → full ≡ not (nat_lt (length numbers) most_bodies) → HasBlock (domain_of scope full (tree_ahead c)) now new → IsAmidBodies declared main all old next (ahead c') new
-bodies_next declared scope main all c c' full numbers next old now new same some past amid pushed is it =
+pub bodies_next : (limits : Limits) (declared : Declared) (scope : Scope) (main all : Trees) (c c' : List Piece) (full : Bool) (numbers next : List ℕ) (old now new : Drafted) → scope ≡ body_scope declared → has_tree c ≡ true → IsPast c c' → IsAmidBodies limits declared main all old numbers (ahead c) now → next ≡ numbers ++ length now.nodes ∷ [] → full ≡ not (nat_lt (length numbers) limits.bodies) → HasBlock (domain_of scope full (tree_ahead c)) now new → IsAmidBodies limits declared main all old next (ahead c') new
+bodies_next limits declared scope main all c c' full numbers next old now new same some past amid pushed is it =
     let here : ahead c ≡ And (tree_ahead c) (ahead c') = next_passed c c' some past in
-    let read : domain_of (body_scope declared) (not (nat_lt (length numbers) most_bodies)) (tree_ahead c) (made_of now) ≡ Ok (Begins (length now.nodes) it.items, made_of new) =
+    let read : domain_of (body_scope declared) (not (nat_lt (length numbers) limits.bodies)) (tree_ahead c) (made_of now) ≡ Ok (Begins (length now.nodes) it.items, made_of new) =
     ap (λ b. domain_of (body_scope declared) b (tree_ahead c) (made_of now)) (sym is) ∙ (ap (λ s. domain_of s full (tree_ahead c) (made_of now)) (sym same) ∙ it.gives) in
-    let whole : domains declared (length numbers) (ahead c) (made_of now) ≡ (domains declared (length numbers + 1) (ahead c') >>> λ more. gives (Begins (length now.nodes) it.items ∷ more)) (made_of new) =
-    ap (λ ts. domains declared (length numbers) ts (made_of now)) here ∙ (domains_step declared (length numbers) (tree_ahead c) (ahead c') (made_of now) ∙ step_ok (domain_of (body_scope declared) (not (nat_lt (length numbers) most_bodies)) (tree_ahead c)) (λ one. domains declared (length numbers + 1) (ahead c') >>> λ more. gives (one ∷ more)) (made_of now) (made_of new) (Begins (length now.nodes) it.items) read) in
+    let whole : domains limits declared (length numbers) (ahead c) (made_of now) ≡ (domains limits declared (length numbers + 1) (ahead c') >>> λ more. gives (Begins (length now.nodes) it.items ∷ more)) (made_of new) =
+    ap (λ ts. domains limits declared (length numbers) ts (made_of now)) here ∙ (domains_step limits declared (length numbers) (tree_ahead c) (ahead c') (made_of now) ∙ step_ok (domain_of (body_scope declared) (not (nat_lt (length numbers) limits.bodies)) (tree_ahead c)) (λ one. domains limits declared (length numbers + 1) (ahead c') >>> λ more. gives (one ∷ more)) (made_of now) (made_of new) (Begins (length now.nodes) it.items) read) in
     let count : length next ≡ length numbers + 1 = ap length pushed ∙ length-append numbers (length now.nodes ∷ []) in
     record {
       after = λ more. amid.after (Begins (length now.nodes) it.items ∷ more);
       ok = λ more made e. amid.ok (Begins (length now.nodes) it.items ∷ more) made (whole ∙ rw (rw count at e) refl);
-      fails = λ f e. amid.fails f (rw whole (fails_first f (domains declared (length numbers + 1) (ahead c') (made_of new)) _ (rw count at e)));
+      fails = λ f e. amid.fails f (rw whole (fails_first f (domains limits declared (length numbers + 1) (ahead c') (made_of new)) _ (rw count at e)));
       named = λ more. ap (λ ns. ns ++ map number_of more) pushed ∙ (append_assoc numbers (length now.nodes ∷ []) (map number_of more) ∙ amid.named (Begins (length now.nodes) it.items ∷ more));
       grows = λ more. body_grows now new it.items more it.grows ∙ amid.grows (Begins (length now.nodes) it.items ∷ more);
     }
 
-pub bodies_fail : (declared : Declared) (scope : Scope) (main all : Trees) (c : List Piece) (full : Bool) (numbers : List ℕ) (old now : Drafted) (f : ScriptFault) → scope ≡ body_scope declared → has_tree c ≡ true → IsAmidBodies declared main all old numbers (ahead c) now → full ≡ not (nat_lt (length numbers) most_bodies) → Fails f (domain_of scope full (tree_ahead c) (made_of now)) → Fails f (bodies_read declared main all (made_of old))
-bodies_fail declared scope main all c full numbers old now f same some amid is e =
-    let whole = ap (λ ts. domains declared (length numbers) ts (made_of now)) (next_here c some) ∙ domains_step declared (length numbers) (tree_ahead c) (rest_of (ahead c)) (made_of now) in
-    amid.fails f (rw whole (fails_first f (domain_of (body_scope declared) (not (nat_lt (length numbers) most_bodies)) (tree_ahead c) (made_of now)) _ (rw (same, is) at e)))
+pub bodies_fail : (limits : Limits) (declared : Declared) (scope : Scope) (main all : Trees) (c : List Piece) (full : Bool) (numbers : List ℕ) (old now : Drafted) (f : ScriptFault) → scope ≡ body_scope declared → has_tree c ≡ true → IsAmidBodies limits declared main all old numbers (ahead c) now → full ≡ not (nat_lt (length numbers) limits.bodies) → Fails f (domain_of scope full (tree_ahead c) (made_of now)) → Fails f (bodies_read limits declared main all (made_of old))
+bodies_fail limits declared scope main all c full numbers old now f same some amid is e =
+    let whole = ap (λ ts. domains limits declared (length numbers) ts (made_of now)) (next_here c some) ∙ domains_step limits declared (length numbers) (tree_ahead c) (rest_of (ahead c)) (made_of now) in
+    amid.fails f (rw whole (fails_first f (domain_of (body_scope declared) (not (nat_lt (length numbers) limits.bodies)) (tree_ahead c) (made_of now)) _ (rw (same, is) at e)))
 
-pub bodies_end : (declared : Declared) (main all : Trees) (c : List Piece) (numbers : List ℕ) (old now : Drafted) → has_tree c ≡ false → IsAmidBodies declared main all old numbers (ahead c) now → HasBodies (bodies_read declared main all) numbers old now
+pub bodies_end : (limits : Limits) (declared : Declared) (main all : Trees) (c : List Piece) (numbers : List ℕ) (old now : Drafted) → has_tree c ≡ false → IsAmidBodies limits declared main all old numbers (ahead c) now → HasBodies (bodies_read limits declared main all) numbers old now
 unfolding domains flat_bodies
-bodies_end declared main all c numbers old now none amid = record {
+bodies_end limits declared main all c numbers old now none amid = record {
   blocks = amid.after [];
-  gives = amid.ok [] (made_of now) (ap (λ ts. domains declared (length numbers) ts (made_of now)) (has_none c none));
+  gives = amid.ok [] (made_of now) (ap (λ ts. domains limits declared (length numbers) ts (made_of now)) (has_none c none));
   named = sym (append-nil numbers) ∙ amid.named [];
   grows = sym (append-nil now.nodes) ∙ amid.grows [];
 }
@@ -340,11 +340,11 @@ version_row c c' at z e passed =
 pub root_no_main : (p at : ℕ) (z : ℤ) (c c' : List Piece) → Some (at, z) ≡ number_at (tree_ahead c) → c' ≡ behind c → parts_of (ahead c') ≡ None → root_of p (ahead c) ≡ Err (model.Shape p)
 root_no_main p at z c c' e passed none = ap (root_of p) (version_row c c' at z e passed) ∙ rw (root_of, none) refl
 
-pub root_version : (p at : ℕ) (z : ℤ) (c c' : List Piece) (parts : Parts) → Some (at, z) ≡ number_at (tree_ahead c) → c' ≡ behind c → parts_of (ahead c') ≡ Some parts → is_one z ≡ false → root_of p (ahead c) ≡ Err (model.Shape at)
+pub root_version : (p at : ℕ) (z : ℤ) (c c' : List Piece) (parts : Parts) → Some (at, z) ≡ number_at (tree_ahead c) → c' ≡ behind c → parts_of (ahead c') ≡ Some parts → version_of z ≡ None → root_of p (ahead c) ≡ Err (model.Shape at)
 root_version p at z c c' parts e passed some other = ap (root_of p) (version_row c c' at z e passed) ∙ rw (root_of, some, other) refl
 
-pub root_read : (p at : ℕ) (z : ℤ) (c c' : List Piece) (parts : Parts) → Some (at, z) ≡ number_at (tree_ahead c) → c' ≡ behind c → parts_of (ahead c') ≡ Some parts → is_one z ≡ true → root_of p (ahead c) ≡ script_of_parts parts
-root_read p at z c c' parts e passed some one = ap (root_of p) (version_row c c' at z e passed) ∙ rw (root_of, some, one) refl
+pub root_read : (p at : ℕ) (z : ℤ) (c c' : List Piece) (parts : Parts) (version : ℕ) → Some (at, z) ≡ number_at (tree_ahead c) → c' ≡ behind c → parts_of (ahead c') ≡ Some parts → version_of z ≡ Some version → root_of p (ahead c) ≡ script_of_parts version parts
+root_read p at z c c' parts version e passed some one = ap (root_of p) (version_row c c' at z e passed) ∙ rw (root_of, some, one) refl
 
 flip_true : (a b : List ℕ) → bytes_eq a b ≡ true → bytes_eq b a ≡ true
 flip_true a b e = (bytes_eq-Decides b a).1 (sym ((bytes_eq-Decides a b).0 e))
@@ -362,16 +362,16 @@ flipped_true r a b is e = flip_true a b (sym is ∙ e)
 pub main_behind : (r : Option WordRead) (c0 c1 c2 : List Piece) (main all : Trees) → Enters r c0 c1 → is_main (tree_ahead c0) ≡ true → parts_of (ahead c0) ≡ Some (record { before = Nil; main = main; behind = all }) → IsBehind c1 c2 → ahead c2 ≡ all
 main_behind r c0 c1 c2 main all e is parts passed = passed.trees ∙ (parts_at_main r c0 c1 main all e is parts).1
 
-pub main_read : (declared : Declared) (scope : Scope) (main all : Trees) (r : Option WordRead) (c0 c1 c2 : List Piece) (numbers : List ℕ) (old now : Drafted) → scope ≡ body_scope declared → Enters r c0 c1 → is_main (tree_ahead c0) ≡ true → parts_of (ahead c0) ≡ Some (record { before = Nil; main = main; behind = all }) → IsBehind c1 c2 → HasGrown (statements scope (ahead c1)) (flat_statements (length old.nodes)) old now → numbers ≡ length old.nodes ∷ [] → IsAmidBodies declared main all old numbers (ahead c2) now
-main_read declared scope main all r c0 c1 c2 numbers old now same e is parts passed read one =
+pub main_read : (limits : Limits) (declared : Declared) (scope : Scope) (main all : Trees) (r : Option WordRead) (c0 c1 c2 : List Piece) (numbers : List ℕ) (old now : Drafted) → scope ≡ body_scope declared → Enters r c0 c1 → is_main (tree_ahead c0) ≡ true → parts_of (ahead c0) ≡ Some (record { before = Nil; main = main; behind = all }) → IsBehind c1 c2 → HasGrown (statements scope (ahead c1)) (flat_statements (length old.nodes)) old now → numbers ≡ length old.nodes ∷ [] → IsAmidBodies limits declared main all old numbers (ahead c2) now
+main_read limits declared scope main all r c0 c1 c2 numbers old now same e is parts passed read one =
     let at = parts_at_main r c0 c1 main all e is parts in
     let grown = subst (λ ts. HasGrown (statements scope ts) (flat_statements (length old.nodes)) old now) at.0 read in
-    subst (λ ts. IsAmidBodies declared main all old numbers ts now) (sym (main_behind r c0 c1 c2 main all e is parts passed)) (bodies_first declared scope main all old now numbers same grown one)
+    subst (λ ts. IsAmidBodies limits declared main all old numbers ts now) (sym (main_behind r c0 c1 c2 main all e is parts passed)) (bodies_first limits declared scope main all old now numbers same grown one)
 
-pub main_stops : (declared : Declared) (scope : Scope) (main all : Trees) (r : Option WordRead) (c0 c1 : List Piece) (made : Made) (f : ScriptFault) → scope ≡ body_scope declared → Enters r c0 c1 → is_main (tree_ahead c0) ≡ true → parts_of (ahead c0) ≡ Some (record { before = Nil; main = main; behind = all }) → Fails f (statements scope (ahead c1) made) → Fails f (bodies_read declared main all made)
-main_stops declared scope main all r c0 c1 made f same e is parts fails =
+pub main_stops : (limits : Limits) (declared : Declared) (scope : Scope) (main all : Trees) (r : Option WordRead) (c0 c1 : List Piece) (made : Made) (f : ScriptFault) → scope ≡ body_scope declared → Enters r c0 c1 → is_main (tree_ahead c0) ≡ true → parts_of (ahead c0) ≡ Some (record { before = Nil; main = main; behind = all }) → Fails f (statements scope (ahead c1) made) → Fails f (bodies_read limits declared main all made)
+main_stops limits declared scope main all r c0 c1 made f same e is parts fails =
     let at = parts_at_main r c0 c1 main all e is parts in
-    main_fails declared scope main all made f same (subst (λ ts. Fails f (statements scope ts made)) at.0 fails)
+    main_fails limits declared scope main all made f same (subst (λ ts. Fails f (statements scope ts made)) at.0 fails)
 
-pub full_by : (n k : ℕ) → n ≡ k → nat_le 8 n ≡ not (nat_lt k most_bodies)
-full_by n k same = rw same (grind (arith, tests))
+pub full_by : (most n k : ℕ) → n ≡ k → nat_le most n ≡ not (nat_lt k most)
+full_by most n k same = rw same (grind (arith, tests))

@@ -1,13 +1,15 @@
 -- A whole script, from its root to its last body.
 use Rattle.std.proofs.Common.{◌≡◌, ℕ, List, [], ◌∷◌, ◌++◌, length, true, Some, Result, Ok, Err, codes, refl, ap, sym, subst, ◌∙◌}
 use Rattle.spec_script.specs.Faults as model
+use Rattle.spec_script.specs.declared.Limits.{Limits}
+use Rattle.spec_script.specs.Limits.{limits_of}
 use Rattle.spec_script.specs.Results.{◌>>=◌}
 use Rattle.spec_script.specs.Trees.{Tree, Word, Number, Text, Branch, Trees, Nil, And}
 use Rattle.spec_script.specs.Reads.{Made, Reads, ◌>>>◌, gives, nothing_made}
 use Rattle.spec_script.specs.Syntax.{Block}
 use Rattle.spec_script.specs.Declarations as declarations
 use Rattle.spec_script.specs.Declarations.{declarations_behind, nothing_declared}
-use Rattle.spec_script.specs.Scripts.{Parts, script_of, script_by, bodies_of, items_behind, parts_of, body, domains}
+use Rattle.spec_script.specs.Scripts.{Parts, script_of, read_parts, script_by, bodies_of, items_behind, parts_of, body, domains}
 use Rattle.script_tree.specs.Pieces.{Piece, pieces, first_tree, tree_of}
 use Rattle.script_tree.specs.TreeCode.{tree_of-pieces}
 use Rattle.script_draft.specs.Ahead.{ahead, tree_ahead, has_tree}
@@ -59,11 +61,11 @@ paired declared found = Ok ((declared, found.0), found.1)
 abbrev given : declarations.Declared → List Block → Reads (declarations.Declared × List Block)
 given declared blocks = gives (declared, blocks)
 
-abbrev more_read : declarations.Declared → Trees → Block → Reads (declarations.Declared × List Block)
-more_read declared behind one = domains declared 1 behind >>> λ others. given declared (one ∷ others)
+abbrev more_read : Limits → declarations.Declared → Trees → Block → Reads (declarations.Declared × List Block)
+more_read limits declared behind one = domains limits declared 1 behind >>> λ others. given declared (one ∷ others)
 
-abbrev more_blocks : declarations.Declared → Trees → Block → Reads (List Block)
-more_blocks declared behind one = domains declared 1 behind >>> λ others. gives (one ∷ others)
+abbrev more_blocks : Limits → declarations.Declared → Trees → Block → Reads (List Block)
+more_blocks limits declared behind one = domains limits declared 1 behind >>> λ others. gives (one ∷ others)
 
 abbrev consed : Block → List Block × Made → Result (List Block × Made) model.ScriptFault
 consed first found = Ok (first ∷ found.0, found.1)
@@ -75,34 +77,38 @@ tail_made : (declared : declarations.Declared) (first : Block) (r : Result (List
 tail_made declared first (Ok found) = refl
 tail_made declared first (Err e) = refl
 
-tail_by : (declared : declarations.Declared) (behind : Trees) (r : Result (Block × Made) model.ScriptFault) → (r >>= λ one. more_read declared behind one.0 one.1) ≡ ((r >>= λ one. more_blocks declared behind one.0 one.1) >>= paired declared)
-tail_by declared behind (Ok one) = tail_made declared one.0 (domains declared 1 behind one.1)
-tail_by declared behind (Err e) = refl
+tail_by : (limits : Limits) (declared : declarations.Declared) (behind : Trees) (r : Result (Block × Made) model.ScriptFault) → (r >>= λ one. more_read limits declared behind one.0 one.1) ≡ ((r >>= λ one. more_blocks limits declared behind one.0 one.1) >>= paired declared)
+tail_by limits declared behind (Ok one) = tail_made declared one.0 (domains limits declared 1 behind one.1)
+tail_by limits declared behind (Err e) = refl
 
-tail : (declared : declarations.Declared) (main behind : Trees) (made : Made) → (body declared main >>> more_read declared behind) made ≡ (bodies_read declared main behind made >>= paired declared)
-tail declared main behind made = tail_by declared behind (body declared main made)
+tail : (limits : Limits) (declared : declarations.Declared) (main behind : Trees) (made : Made) → (body declared main >>> more_read limits declared behind) made ≡ (bodies_read limits declared main behind made >>= paired declared)
+tail limits declared main behind made = tail_by limits declared behind (body declared main made)
 
-pub declarations_fail : (tree : Tree) (c1 : List Piece) (count : ℕ) (d0 : Drafted) (f : ScriptFault) → HasRoot (script_of tree) count (ahead c1) → d0 ≡ nothing_drafted → Fails f (declarations_behind count nothing_declared (before_main (ahead c1)) (made_of d0)) → Fails f (script_of tree)
-declarations_fail tree c1 count d0 f root none e =
-    let read : Fails f (declarations_behind (bodies_of root.parts) nothing_declared root.parts.before nothing_made) = rw (root.count, parts_before (ahead c1) root.parts root.is, none) at e in
-    rw root.gives (fails_first f _ _ (fails_first f (declarations_behind (bodies_of root.parts) nothing_declared root.parts.before nothing_made) _ read))
+-- a root gives what its parts give, by the limits of its version
+root_gives : (tree : Tree) (c1 : List Piece) (version count : ℕ) (limits : Limits) (root : HasRoot (script_of tree) version count (ahead c1)) → limits ≡ limits_of version → script_of tree ≡ (read_parts limits root.parts nothing_made >>= λ found. Ok (script_by version root.parts found.0.0 found.0.1 found.1))
+root_gives tree c1 version count limits root same = rw same root.gives
 
-declared_made : (count : ℕ) (c1 : List Piece) (parts : Parts) (d0 d1 : Drafted) (declared : declarations.Declared) → count ≡ bodies_of parts → parts_of (ahead c1) ≡ Some parts → d0 ≡ nothing_drafted → declarations_behind count nothing_declared (before_main (ahead c1)) (made_of d0) ≡ Ok (declared, made_of d1) → declarations_behind (bodies_of parts) nothing_declared parts.before nothing_made ≡ Ok (declared, made_of d1)
-declared_made count c1 parts d0 d1 declared e is none read = rw (e, parts_before (ahead c1) parts is, none) at read
+pub declarations_fail : (tree : Tree) (c1 : List Piece) (version count : ℕ) (limits : Limits) (d0 : Drafted) (f : ScriptFault) → HasRoot (script_of tree) version count (ahead c1) → limits ≡ limits_of version → d0 ≡ nothing_drafted → Fails f (declarations_behind limits count nothing_declared (before_main (ahead c1)) (made_of d0)) → Fails f (script_of tree)
+declarations_fail tree c1 version count limits d0 f root same none e =
+    let read : Fails f (declarations_behind limits (bodies_of root.parts) nothing_declared root.parts.before nothing_made) = rw (root.count, parts_before (ahead c1) root.parts root.is, none) at e in
+    rw (root_gives tree c1 version count limits root same) (fails_first f _ _ (fails_first f (declarations_behind limits (bodies_of root.parts) nothing_declared root.parts.before nothing_made) _ read))
 
-pub bodies_stop : (tree : Tree) (c1 : List Piece) (count : ℕ) (d0 d1 : Drafted) (declared : declarations.Declared) (f : ScriptFault) (root : HasRoot (script_of tree) count (ahead c1)) → d0 ≡ nothing_drafted → declarations_behind count nothing_declared (before_main (ahead c1)) (made_of d0) ≡ Ok (declared, made_of d1) → Fails f (bodies_read declared root.parts.main root.parts.behind (made_of d1)) → Fails f (script_of tree)
-bodies_stop tree c1 count d0 d1 declared f root none read e =
-    let made = declared_made count c1 root.parts d0 d1 declared root.count root.is none read in
-    let after : Fails f ((body declared root.parts.main >>> more_read declared root.parts.behind) (made_of d1)) =
-    subst (λ r. Fails f r) (sym (tail declared root.parts.main root.parts.behind (made_of d1))) (fails_first f (bodies_read declared root.parts.main root.parts.behind (made_of d1)) _ e) in
-    rw (root.gives, made) (fails_first f _ _ after)
+declared_made : (limits : Limits) (count : ℕ) (c1 : List Piece) (parts : Parts) (d0 d1 : Drafted) (declared : declarations.Declared) → count ≡ bodies_of parts → parts_of (ahead c1) ≡ Some parts → d0 ≡ nothing_drafted → declarations_behind limits count nothing_declared (before_main (ahead c1)) (made_of d0) ≡ Ok (declared, made_of d1) → declarations_behind limits (bodies_of parts) nothing_declared parts.before nothing_made ≡ Ok (declared, made_of d1)
+declared_made limits count c1 parts d0 d1 declared e is none read = rw (e, parts_before (ahead c1) parts is, none) at read
 
-pub script_read : (tree : Tree) (c1 : List Piece) (count : ℕ) (d0 d1 d2 : Drafted) (declared : declarations.Declared) (numbers : List ℕ) (root : HasRoot (script_of tree) count (ahead c1)) → d0 ≡ nothing_drafted → declarations_behind count nothing_declared (before_main (ahead c1)) (made_of d0) ≡ Ok (declared, made_of d1) → (all : HasBodies (bodies_read declared root.parts.main root.parts.behind) numbers d1 d2) → script_of tree ≡ Ok (script_by root.parts declared all.blocks (made_of d2))
-script_read tree c1 count d0 d1 d2 declared numbers root none read all =
-    let made = declared_made count c1 root.parts d0 d1 declared root.count root.is none read in
-    let after : (body declared root.parts.main >>> more_read declared root.parts.behind) (made_of d1) ≡ Ok ((declared, all.blocks), made_of d2) =
-    tail declared root.parts.main root.parts.behind (made_of d1) ∙ ap (λ r. r >>= paired declared) all.gives in
-    root.gives ∙ rw (made, after) refl
+pub bodies_stop : (tree : Tree) (c1 : List Piece) (version count : ℕ) (limits : Limits) (d0 d1 : Drafted) (declared : declarations.Declared) (f : ScriptFault) (root : HasRoot (script_of tree) version count (ahead c1)) → limits ≡ limits_of version → d0 ≡ nothing_drafted → declarations_behind limits count nothing_declared (before_main (ahead c1)) (made_of d0) ≡ Ok (declared, made_of d1) → Fails f (bodies_read limits declared root.parts.main root.parts.behind (made_of d1)) → Fails f (script_of tree)
+bodies_stop tree c1 version count limits d0 d1 declared f root same none read e =
+    let made = declared_made limits count c1 root.parts d0 d1 declared root.count root.is none read in
+    let after : Fails f ((body declared root.parts.main >>> more_read limits declared root.parts.behind) (made_of d1)) =
+    subst (λ r. Fails f r) (sym (tail limits declared root.parts.main root.parts.behind (made_of d1))) (fails_first f (bodies_read limits declared root.parts.main root.parts.behind (made_of d1)) _ e) in
+    rw (root_gives tree c1 version count limits root same, made) (fails_first f _ _ after)
+
+pub script_read : (tree : Tree) (c1 : List Piece) (version count : ℕ) (limits : Limits) (d0 d1 d2 : Drafted) (declared : declarations.Declared) (numbers : List ℕ) (root : HasRoot (script_of tree) version count (ahead c1)) → limits ≡ limits_of version → d0 ≡ nothing_drafted → declarations_behind limits count nothing_declared (before_main (ahead c1)) (made_of d0) ≡ Ok (declared, made_of d1) → (all : HasBodies (bodies_read limits declared root.parts.main root.parts.behind) numbers d1 d2) → script_of tree ≡ Ok (script_by version root.parts declared all.blocks (made_of d2))
+script_read tree c1 version count limits d0 d1 d2 declared numbers root same none read all =
+    let made = declared_made limits count c1 root.parts d0 d1 declared root.count root.is none read in
+    let after : (body declared root.parts.main >>> more_read limits declared root.parts.behind) (made_of d1) ≡ Ok ((declared, all.blocks), made_of d2) =
+    tail limits declared root.parts.main root.parts.behind (made_of d1) ∙ ap (λ r. r >>= paired declared) all.gives in
+    root_gives tree c1 version count limits root same ∙ rw (made, after) refl
 
 pub nodes_read : (read : Reads (List Block)) (numbers : List ℕ) (d0 d1 d2 : Drafted) → d0 ≡ nothing_drafted → d1.nodes ≡ d0.nodes → (all : HasBodies read numbers d1 d2) → d2.nodes ≡ flat_bodies 0 all.blocks
 nodes_read read numbers d0 d1 d2 none same all =

@@ -9,6 +9,7 @@ use Rattle.script_lang.specs.declared.reader.Outline.{Outline}
 -- it is this script
 pub record IsOutlineOf (script : Script) (outline : Outline) (draft : Drafted) : Type 0 where
   pub read : script_of outline.tree ≡ Ok script
+  pub version : outline.version ≡ script.version
   pub names : outline.names.items ≡ script.names
   pub declarations : map declaration_of outline.declarations.items ≡ script.declarations
   pub bodies : outline.bodies.items ≡ map number_of script.bodies

@@ -1,9 +1,9 @@
-//! Reading of scripts: `(eio 1 DECLARATION* (main STATEMENT*) (domain STATEMENT*)*)`. The theorem is the clauses of [`read_script`].
+//! Reading of scripts: `(eio VERSION DECLARATION* (main STATEMENT*) (domain STATEMENT*)*)`. The theorem is the clauses of [`read_script`].
 #![tactic(auto, using(script_draft::proofs::Counts::some_ahead, script_draft::proofs::Counts::none_ahead, script_draft::proofs::Counts::count_past))]
 
 ghost use Rattle.std.specs.Prelude.{◌≡◌, ◌+◌, ◌<◌, ◌≤◌, IfOk, IfErr, codes, is_some, length, true, false};
 ghost use Rattle.spec_script.specs.Declarations as declared;
-ghost use Rattle.spec_script.specs.Scripts.{script_of, items_behind, body_scope, domains_in, first_place, is_one};
+ghost use Rattle.spec_script.specs.Scripts.{script_of, items_behind, body_scope, domains_in, first_place, version_of};
 ghost use Rattle.spec_script.specs.Trees.{Trees};
 ghost use Rattle.script_draft.specs.Ahead.{ahead, has_tree, tree_ahead, IsPast};
 ghost use Rattle.script_statements.specs.Blocks.{Blocked};
@@ -18,13 +18,11 @@ use eio_value::{NoMemory, TextId};
 use script_code::{Parts, Script};
 use script_declarations::declarations::{Declared, declarations as read_declarations, is_at_end};
 use script_draft::{Cursor, Draft, Finished, Scope};
-use script_forms::{Decl, ScriptFault, is_word};
+use script_forms::{Decl, ScriptFault, is_word, limits_of};
 use script_statements::statements::statements;
 use script_tree::Tree;
+use spec_script::Limits;
 use std::alloc::Global;
-
-/// The most bodies of a script.
-const MOST_BODIES: usize = 8;
 
 /// The script that a tree stands for.
 ///
@@ -44,6 +42,7 @@ pub fn read_script(alloc: Global, tree: &Tree) -> Result<Script, ScriptFault>
 #[derive(Drop)]
 struct Outline {
     tree: Tree,
+    version: u32,
     names: Vec<TextId>,
     declarations: Vec<Decl>,
     /// The numbers of the first nodes of the bodies.
@@ -54,10 +53,11 @@ struct Outline {
 
 /// The parts of a script, of what was read beside its draft and of that.
 fn parts_of(outline: Outline, made: Finished) -> Parts
-    ensures { result ≡ record { tree = outline.tree; names = outline.names; declarations = outline.declarations; nodes = made.nodes; bodies = outline.bodies; texts = made.texts; failures = made.failures; formed = made.formed; first_domain = outline.first_domain } }
+    ensures { result ≡ record { tree = outline.tree; version = outline.version; names = outline.names; declarations = outline.declarations; nodes = made.nodes; bodies = outline.bodies; texts = made.texts; failures = made.failures; formed = made.formed; first_domain = outline.first_domain } }
 {
     Parts {
         tree: outline.tree,
+        version: outline.version,
         names: outline.names,
         declarations: outline.declarations,
         nodes: made.nodes,
@@ -77,37 +77,41 @@ fn read_outline(tree: &Tree, draft: &mut Draft) -> Result<Outline, ScriptFault>
     ensures fault { IfErr result (λ fault. Fails fault (script_of tree.now)) }
 {
     let mut cursor = Cursor::new(tree.nodes());
-    let count = root(&mut cursor)?;
-    let declared = read_declarations(&mut cursor, draft, count)?;
-    let bodies = bodies_behind(&cursor, draft, &declared)?;
-    Ok(outline_of(tree, draft.alloc(), declared, bodies)?)
+    let found = root(&mut cursor)?;
+    let limits = limits_of(found.version);
+    let declared = read_declarations(&mut cursor, draft, limits, found.bodies)?;
+    let bodies = bodies_behind(&cursor, draft, limits, &declared)?;
+    Ok(outline_of(tree, draft.alloc(), found.version, declared, bodies)?)
 }
 
 /// The bodies behind these declarations, of which main comes next.
 fn bodies_behind<'t>(
     cursor: &Cursor<'t>,
     draft: &mut Draft,
+    limits: Limits,
     declared: &Declared<'t>,
 ) -> Result<Bodies, ScriptFault>
     requires { is_main (tree_ahead cursor.now) ≡ true }
-    ensures { Bodied result (declared_of declared.now) (ahead cursor.now) draft.old draft.new }
+    ensures { Bodied result limits (declared_of declared.now) (ahead cursor.now) draft.old draft.new }
 {
     let scope = Scope::new(draft.alloc(), &declared.scope);
     let mut rest = cursor.again();
-    read_bodies(&mut rest, draft, &scope)
+    read_bodies(&mut rest, draft, limits, &scope)
 }
 
 /// What was read from this tree.
 fn outline_of(
     tree: &Tree,
     alloc: Global,
+    version: u32,
     declared: Declared,
     bodies: Bodies,
 ) -> Result<Outline, NoMemory>
-    ensures { IfOk result (λ outline. outline ≡ record { tree = tree.now; names = declared.entry.names; declarations = declared.entry.declarations; bodies = bodies.numbers; first_domain = bodies.first_domain }) }
+    ensures { IfOk result (λ outline. outline ≡ record { tree = tree.now; version = version; names = declared.entry.names; declarations = declared.entry.declarations; bodies = bodies.numbers; first_domain = bodies.first_domain }) }
 {
     Ok(Outline {
         tree: tree.copy(alloc)?,
+        version,
         names: declared.names,
         declarations: declared.declarations,
         bodies: bodies.numbers,
@@ -115,8 +119,17 @@ fn outline_of(
     })
 }
 
-/// What stands before the declarations; how many bodies a worker may name.
-fn root(cursor: &mut Cursor) -> Result<u32, ScriptFault>
+/// What stands before the declarations of a script.
+#[derive(Clone, Copy)]
+pub(crate) struct Heading {
+    /// The version of the notation.
+    pub(crate) version: u32,
+    /// How many bodies a worker may name.
+    pub(crate) bodies: u32,
+}
+
+/// What stands before the declarations.
+fn root(cursor: &mut Cursor) -> Result<Heading, ScriptFault>
     requires { has_tree cursor.old ≡ true }
     ensures { Roots result (script_of (tree_ahead cursor.old)) (ahead cursor.new) }
 {
@@ -127,24 +140,24 @@ fn root(cursor: &mut Cursor) -> Result<u32, ScriptFault>
     if !is_word(head.word, b"eio") {
         return Err(ScriptFault::Shape(at));
     }
-    let Some(version) = cursor.number_ahead() else {
+    let Some(number) = cursor.number_ahead() else {
         return Err(ScriptFault::Shape(at));
     };
     cursor.pass();
-    let Some(count) = bodies_named(cursor)? else {
+    let Some(bodies) = bodies_named(cursor)? else {
         return Err(ScriptFault::Shape(at));
     };
-    if !is_one(version.number) {
-        return Err(ScriptFault::Shape(version.at));
-    }
-    Ok(count)
+    let Some(version) = version_of(number.number) else {
+        return Err(ScriptFault::Shape(number.at));
+    };
+    Ok(Heading { version, bodies })
 }
 
-/// Whether a number is the version of these scripts.
-fn is_one(version: i64) -> bool
-    ensures { result ≡ is_one version }
+/// The version that a number stands for, if it is one that is read.
+fn version_of(number: i64) -> Option<u32>
+    ensures { result ≡ version_of number }
 {
-    version == 1
+    if number == 1 { Some(1) } else { None }
 }
 
 /// How many bodies a worker may name: the first list that begins with `main`, and each that begins with `domain` behind it. None
@@ -231,14 +244,15 @@ pub(crate) struct Bodies {
     pub(crate) first_domain: Option<u32>,
 }
 
-/// The bodies, of which main comes next.
+/// The bodies, of which main comes next; as many as `limits` says at most.
 fn read_bodies<'t, 'd>(
     cursor: &mut Cursor<'t>,
     draft: &mut Draft,
+    limits: Limits,
     scope: &Scope<'t, 'd>,
 ) -> Result<Bodies, ScriptFault>
     requires { is_main (tree_ahead cursor.old) ≡ true }
-    ensures { (declared : declared.Declared) → scope.now ≡ body_scope declared → Bodied result declared (ahead cursor.old) draft.old draft.new }
+    ensures { (declared : declared.Declared) → scope.now ≡ body_scope declared → Bodied result limits declared (ahead cursor.old) draft.old draft.new }
 {
     let mut numbers = Vec::new(draft.alloc());
     numbers.push(draft.next())?;
@@ -246,7 +260,7 @@ fn read_bodies<'t, 'd>(
     statements(cursor, draft, scope)?;
     let first_domain = first_place(cursor);
     while cursor.has_tree() {
-        let full = numbers.len() >= MOST_BODIES;
+        let full = numbers.len() >= limits.bodies as usize;
         numbers.push(draft.next())?;
         domain(cursor, draft, scope, full)?;
     }

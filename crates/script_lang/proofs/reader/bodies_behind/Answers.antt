@@ -1,9 +1,7 @@
-use Rattle.std.proofs.Common.{◌≡◌, true, refl, ap, subst, sym, ◌∙◌}
+use Rattle.std.proofs.Common.{◌≡◌, refl, ap, ◌∙◌}
 use Rattle.spec_script.specs.Scripts.{body_scope}
-use Rattle.script_tree.specs.Pieces.{Piece}
-use Rattle.script_draft.specs.Ahead.{ahead, tree_ahead}
+use Rattle.script_draft.specs.Ahead.{tree_ahead}
 use Rattle.script_declarations.specs.DeclarationsRead.{declared_of, is_main}
-use Rattle.script_lang.specs.ScriptsRead.{Bodied}
 use Rattle.script_lang.proofs.reader.bodies_behind.Goals as goal
 
 pub read_bodies-requires : goal.read_bodies-requires
