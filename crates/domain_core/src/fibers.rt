@@ -263,7 +263,9 @@ impl Fibers {
         ensures { IfOk result (λ call. Settles (nodes_of script.now) came.now number self.old texts.old serials.old call self.new texts.new serials.new) }
     {
         let key = key_of(&self.keys, number);
-        self.kept[key].frames.settle_in(script, texts, serials, came)
+        self.kept[key]
+            .frames
+            .settle_in(script, texts, serials, came)
     }
 
     /// The fiber has ended.
