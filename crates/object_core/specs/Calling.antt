@@ -1,0 +1,26 @@
+-- What any call on an object in code gives, and what is asked of a job that is submitted.
+use Rattle.std.specs.Prelude.{ℕ, ◌<◌, ◌-◌, ◌^◌, Bool}
+use Rattle.eio_value.specs.declared.call.Call.{Call}
+use Rattle.eio_value.specs.declared.call.Call.TheVariants as call
+use Rattle.eio_value.specs.declared.message.Waiter.{Waiter}
+use Rattle.eio_value.specs.Waking.{Test}
+use Rattle.executor_pool.specs.Finishing.{MeetsOne}
+use Rattle.executor_pool.specs.Working.{submitted}
+use Rattle.spec_parts.specs.Data.{Data}
+use Rattle.spec_parts.specs.Row.{Row, Stepped}
+use Rattle.wait_list.specs.Meeting.{Meets}
+
+-- the end of a job asks the one fiber that it is for; any other call asks those of a list in order
+abbrev pub MeetsCall : Test → Test → (tells : Bool) → Row → Waiter → (off : Bool) → (serial : ℕ) → Call → Stepped → Type 0
+MeetsCall knew knows tells row who off serial (call.Done object number given) after = MeetsOne knew knows tells row who off serial (call.Done object number given) after
+MeetsCall knew knows tells row who off serial other after = Meets knew knows tells row who off serial other after
+
+-- a job takes some part of a worker
+abbrev pub IsWeighty : Call → Type 0
+IsWeighty (call.Submit job) = 0 < job.weight
+IsWeighty other = Unit {0}
+
+-- a job that is submitted can be numbered
+abbrev pub IsCountable : Call → Data → Type 0
+IsCountable (call.Submit job) values = submitted values < 2 ^ 64 - 1
+IsCountable other values = Unit {0}

@@ -1,0 +1,4 @@
+pub mod Kinds
+pub mod Opening
+pub mod Holding
+pub mod Calling
