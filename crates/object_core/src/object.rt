@@ -40,7 +40,7 @@ impl Model for ObjectCore {
 
 /// The core of a declaration.
 fn made(alloc: Global, declared: Declared, cells: u32) -> Result<Held, NoMemory>
-    ensures { IfOk result (λ held. (core_in held ≡ record { row = opened cells declared; cells = cells }) × IsHeld held) }
+    ensures { IfOk result (λ held. (core_in held ≡ record { row = opened cells declared.entry; cells = cells }) × IsHeld held) }
 {
     match declared {
         Declared::Stream(capacity) => Ok(Held::Stream(Stream::new(alloc, capacity, cells)?)),
@@ -58,7 +58,7 @@ impl ObjectCore {
     /// # Errors
     /// [`NoMemory`].
     pub fn new(alloc: Global, declared: Declared, cells: u32) -> Result<ObjectCore, NoMemory>
-        ensures { IfOk result (λ object. object ≡ record { row = opened cells declared; cells = cells }) }
+        ensures { IfOk result (λ object. object ≡ record { row = opened cells declared.entry; cells = cells }) }
     {
         let held = made(alloc, declared, cells)?;
         Ok(ObjectCore { held })
