@@ -7,13 +7,14 @@
 //!
 //! The definitions that the clauses cite stand in specs/: `Causes` (faults, and fronts that were
 //! written), `Devices` (the sink in memory as a record, the numbers of calls), `Input` (what was read of an input),
-//! `Outcome` (what a command reads and writes by the status that it answers).
+//! `Outcome` (what a command reads and writes by the status that it answers), `Passing` (what a buffer has passed on).
 #![tactic(auto)]
 
 mod gate;
 mod input;
 mod mem_sink;
 mod mem_source;
+mod out;
 mod sink;
 mod source;
 mod std_io;
@@ -23,6 +24,7 @@ pub use gate::{Gate, OpenGate};
 pub use input::{InputError, read_input};
 pub use mem_sink::MemSink;
 pub use mem_source::MemSource;
+pub use out::Out;
 pub use sink::Sink;
 pub use source::Source;
 pub use std_io::{StdSink, StdSource};
