@@ -34,18 +34,24 @@ module _ (a b c : Option (List ℕ)) (p xs q ys : List ℕ) (first : PassesOn a 
     whole = append_assoc first.written second.written r ∙ (ap (λ bs. first.written ++ bs) second.whole ∙ whole_of);
   }
 
-  -- a front of what is held back and of more is a front of the whole
+  -- what is held back and more, all of it or a front, make the whole or a front of it
+  pub all_passed : Appends b c (q ++ ys) → Appends a c (p ++ (xs ++ ys))
+  all_passed all = subst (Appends a c) whole_of (Appends-trans a b c _ _ first.appended all)
+
   pub front_passed : AppendsFront b c (q ++ ys) → AppendsFront a c (p ++ (xs ++ ys))
   front_passed front = subst (AppendsFront a c) whole_of (front_after a b c _ _ first.appended front)
 
-module _ (a b : Option (List ℕ)) (p xs q : List ℕ) (passed : PassesOn a b p xs q) where
-  -- what was written is a front of all that was put
-  pub front_written : AppendsFront a b (p ++ xs)
-  front_written = subst (AppendsFront a b) passed.whole (front_longer a b passed.written q (front_of_whole a b passed.written passed.appended))
+-- what was written is a front of all that was put
+pub front_written : (a b : Option (List ℕ)) (p xs q : List ℕ) → PassesOn a b p xs q → AppendsFront a b (p ++ xs)
+front_written a b p xs q passed = subst (AppendsFront a b) passed.whole (front_longer a b passed.written q (front_of_whole a b passed.written passed.appended))
 
-  -- and all of it where nothing is held back
-  pub all_written : q ≡ [] → Appends a b (p ++ xs)
-  all_written none = subst (Appends a b) (sym (append-nil passed.written) ∙ (ap (λ bs. passed.written ++ bs) (sym none) ∙ passed.whole)) passed.appended
+-- and then all that is held back, or a front of it
+module _ (a b c : Option (List ℕ)) (p xs q : List ℕ) (passed : PassesOn a b p xs q) where
+  pub all_flushed : Appends b c q → Appends a c (p ++ xs)
+  all_flushed all = subst (Appends a c) passed.whole (Appends-trans a b c _ _ passed.appended all)
+
+  pub front_flushed : AppendsFront b c q → AppendsFront a c (p ++ xs)
+  front_flushed front = subst (AppendsFront a c) passed.whole (front_after a b c _ _ passed.appended front)
 
 -- a front of bytes and then a slice of the rest
 module _ (a b c : Option (List ℕ)) (p q bs : List ℕ) (n to : ℕ) (forward : n ≤ to) (first : PassesOn a b p (take n bs) q) where

@@ -1,5 +1,6 @@
 use Rattle.std.proofs.Common.{inl, inr, subst, arith}
 use Rattle.std.proofs.lemmas.Result.{err_from_is_err_and}
+use Rattle.trace_out.proofs.Appended.{front_none}
 use Rattle.domain_core.specs.declared.turn.Turn.{Turn}
 use Rattle.domain_core.specs.declared.turn.Turn.TheVariants as turn
 use Rattle.domain_core.specs.Turns.{Turns}
@@ -14,7 +15,7 @@ use Rattle.mock_backend.proofs.run.run_domain.Goals.{In-Moved, In-Idle}
 
 pub running-init : goal.running-init
 running-init g c = record {
-  part = part_opens _ _ _ _ _ c.requires.texts c.requires.starts;
+  part = part_opens _ _ _ _ _ _ c.in_ok-out.ensures c.requires.texts c.requires.starts;
   fits = c.requires.objects _ c.requires.starts.number c.requires.starts.mocked;
   own = c.requires.own;
   later = omega arith;
@@ -22,7 +23,7 @@ running-init g c = record {
 
 pub returns-in_err-line-clause-text : goal.returns-in_err-line-clause-text
 returns-in_err-line-clause-text g c =
-    writes_failed _ _ _ _ c.from_residual.ensures.0 (front_of_trace _ _ _ _ (part_front _ _ _ _ _ _ _ c.running.invariant.part))
+    writes_failed _ _ _ _ c.from_residual-in_err-line.ensures.0 (front_of_trace _ _ _ _ (part_front _ _ _ _ _ _ _ _ c.running.invariant.part))
 
 -- what the turn did, where it made a line
 made_line : (g : Over) (c : In-Moved g) → Turns Calls Strikes Receives Asks Learns c.args.script.now (turn.Moved c.in-Moved.line) c.running.texts c.turn.new.texts c.running.domain c.turn.new.self c.running.objects c.turn.new.objects
@@ -45,7 +46,7 @@ pub returns-in_err-write_line-in-Moved-clause-text : goal.returns-in_err-write_l
 returns-in_err-write_line-in-Moved-clause-text g c =
     let it = (goal.at.returns-in_err-write_line-in-Moved-clause-text g c).In-Moved in
     writes_failed _ _ _ _ c.from_residual-in_err-write_line-in-Moved.ensures.0
-    (front_of_trace _ _ _ _ (part_front_moves _ _ _ _ _ _ _ _ _ _ c.running.invariant.part (omega arith) _ (moved_on g it) _ c.names.ensures.names c.in_err-write_line-in-Moved.ensures.text))
+    (front_of_trace _ _ _ _ (part_front_moves _ _ _ _ _ _ _ _ _ _ _ c.running.invariant.part (omega arith) _ (moved_on g it) _ c.names.ensures.names c.in_err-write_line-in-Moved.ensures.err))
 
 pub returns-in_err-write_line-in-Moved-clause-cause : goal.returns-in_err-write_line-in-Moved-clause-cause
 returns-in_err-write_line-in-Moved-clause-cause g c =
@@ -53,14 +54,14 @@ returns-in_err-write_line-in-Moved-clause-cause g c =
     cause_before _ _ _ _ p.0 _ p.1 p.2 c.running.invariant.later c.in_err-write_line-in-Moved.ensures.cause
 
 -- the run is over where a turn made no line
-still : (g : Over) (c : In-Idle g) → IsWhole c.args.script.now c.args.steps (g.K.Sink.held c.args.sink.now) (g.K.Sink.held c.running.sink) c.turn.new.texts c.turn.new.self
+still : (g : Over) (c : In-Idle g) → IsWhole c.args.script.now c.args.steps (g.K.Sink.held c.args.sink.now) (g.K.Sink.held c.running.sink) c.running.out c.turn.new.texts c.turn.new.self
 still g c =
     let part = c.running.invariant.part in
     let turned = λ (it : Turn). Turns Calls Strikes Receives Asks Learns c.args.script.now it c.running.texts c.turn.new.texts c.running.domain c.turn.new.self c.running.objects c.turn.new.objects in
     elim c.in-Idle.is [
-      | inl is ↦ whole_idle _ _ _ _ _ _ _ _ _ _ _ part (subst turned is c.in_ok-line.ensures.turns)
-      | inr (inl is) ↦ whole_budget _ _ _ _ _ _ _ _ _ _ _ part (omega arith) (subst turned is c.in_ok-line.ensures.turns)
-      | inr (inr is) ↦ whole_halted _ _ _ _ _ _ _ _ _ _ _ part (subst turned is c.in_ok-line.ensures.turns)
+      | inl is ↦ whole_idle _ _ _ _ _ _ _ _ _ _ _ _ part (subst turned is c.in_ok-line.ensures.turns)
+      | inr (inl is) ↦ whole_budget _ _ _ _ _ _ _ _ _ _ _ _ part (omega arith) (subst turned is c.in_ok-line.ensures.turns)
+      | inr (inr is) ↦ whole_halted _ _ _ _ _ _ _ _ _ _ _ _ part (subst turned is c.in_ok-line.ensures.turns)
     ]
 
 pub end_run-requires : goal.end_run-requires
@@ -72,10 +73,10 @@ pub returns-in-Idle : goal.returns-in-Idle
 returns-in-Idle g c =
     let whole = still g (goal.at.returns-in-Idle g c).In-Idle in
     record {
-      ending = whole_ending _ _ _ _ _ _ whole _ c.end_run.ensures.ending;
-      text = whole_written _ _ _ _ _ _ whole _ _ c.end_run.ensures.text;
-      raised = whole_raised _ _ _ _ _ _ whole _ c.end_run.ensures.ending;
-      deadlock = whole_stuck _ _ _ _ _ _ whole _ c.end_run.ensures.ending;
+      ending = whole_ending _ _ _ _ _ _ _ whole _ c.end_run.ensures.ending;
+      text = whole_written _ _ _ _ _ _ _ whole _ _ c.end_run.ensures.text;
+      raised = whole_raised _ _ _ _ _ _ _ whole _ c.end_run.ensures.ending;
+      deadlock = whole_stuck _ _ _ _ _ _ _ whole _ c.end_run.ensures.ending;
       cause = cause_behind _ _ _ _ c.running.invariant.later c.end_run.ensures.cause;
     }
 
@@ -84,7 +85,7 @@ running-preserved g c =
     let it = (goal.at.running-preserved g c).In-Moved in
     record {
       part =
-          part_moves _ _ _ _ _ _ _ _ _ _ c.running.invariant.part (omega arith) _ (moved_on g it) _ c.names.ensures.names c.in_ok-write_line-in-Moved.ensures.text
+          part_moves _ _ _ _ _ _ _ _ _ _ _ c.running.invariant.part (omega arith) _ (moved_on g it) _ _ c.names.ensures.names c.in_ok-write_line-in-Moved.ensures.ok
           (made_line g it).1 (made_line g it).2;
       fits = c.in_ok-line.ensures.objects;
       own = grown_has _ _ _ (made_line g it).4 c.running.invariant.own;
@@ -98,11 +99,14 @@ end_run-requires-2 g c =
 
 pub returns : goal.returns
 returns g c =
-    let whole = whole_spent _ _ _ _ _ _ _ c.running.invariant.part (omega arith) in
+    let whole = whole_spent _ _ _ _ _ _ _ _ c.running.invariant.part (omega arith) in
     record {
-      ending = whole_ending _ _ _ _ _ _ whole _ c.end_run-2.ensures.ending;
-      text = whole_written _ _ _ _ _ _ whole _ _ c.end_run-2.ensures.text;
-      raised = whole_raised _ _ _ _ _ _ whole _ c.end_run-2.ensures.ending;
-      deadlock = whole_stuck _ _ _ _ _ _ whole _ c.end_run-2.ensures.ending;
+      ending = whole_ending _ _ _ _ _ _ _ whole _ c.end_run-2.ensures.ending;
+      text = whole_written _ _ _ _ _ _ _ whole _ _ c.end_run-2.ensures.text;
+      raised = whole_raised _ _ _ _ _ _ _ whole _ c.end_run-2.ensures.ending;
+      deadlock = whole_stuck _ _ _ _ _ _ _ whole _ c.end_run-2.ensures.ending;
       cause = cause_behind _ _ _ _ c.running.invariant.later c.end_run-2.ensures.cause;
     }
+
+pub returns-in_err-out-clause-text : goal.returns-in_err-out-clause-text
+returns-in_err-out-clause-text g c = writes_failed _ _ _ _ c.from_residual.ensures.0 (front_none _ _)
