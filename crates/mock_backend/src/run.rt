@@ -19,13 +19,16 @@ ghost use Rattle.mock_backend.specs.Scripts.{IsOfRun};
 
 use crate::fault::RunFault;
 use crate::local::Local;
-use crate::trace::write_line;
-use domain_core::{Domain, Turn};
+use crate::trace::write_told;
+use domain_core::{Domain, Told, Turned};
 use eio_value::{NoMemory, Outcome, Texts, show_raised};
 use script_code::Script;
 use spec_machine::Ending;
 use std::alloc::Global;
 use trace_out::{Out, Sink};
+
+/// The number of the one domain of a mocked run.
+pub(crate) const MOCKED: u8 = 0;
 
 /// How a run ends that has come to this domain.
 fn ending_of(domain: &Domain) -> Ending
@@ -118,13 +121,15 @@ fn run_domain<K: Sink>(
 {
     let mut out = Out::new(alloc)?;
     let mut buffer = Vec::new(alloc);
+    let mut told = Told::nothing();
     // The label is the loop's name in its proof.
     'running: for made in 0..steps {
-        match domain.turn(script, texts, objects)? {
-            Turn::Moved(line) => {
-                write_line(&mut out, sink, texts, script.names(), &line, &mut buffer)?
+        match domain.turn_told(script, texts, objects, &mut told)? {
+            Turned::Moved(stamp) => {
+                let names = script.names();
+                write_told(&mut out, sink, texts, names, stamp, &told, &mut buffer)?
             }
-            Turn::Idle | Turn::Spent | Turn::Halted => {
+            Turned::Idle | Turned::Spent | Turned::Halted => {
                 return end_run(domain, texts, &mut out, sink, &mut buffer);
             }
         }
@@ -155,7 +160,7 @@ pub(crate) fn run_script<K: Sink>(
     ensures cause { HasRunCause (K.faults sink.old) (K.faults sink.new) result }
 {
     let mut texts = script.texts_of(alloc)?;
-    let mut domain = Domain::start(alloc, script, 0, steps, true)?;
+    let mut domain = Domain::start(alloc, script, MOCKED, steps, true)?;
     let mut objects = Local::make(alloc, texts.len());
     run_domain(
         alloc,
