@@ -1,4 +1,4 @@
-//! A run of a script on one mocked domain, whose trace is written as it comes, 4,096 bytes at a time, and the line behind it.
+//! A run of a script on one mocked domain, whose trace goes out 4,096 bytes at a time, and the line behind it.
 //!
 //! The loop keeps: what was written, with what is held back behind it, is the trace of the moves made so far, and the moves that are left
 //! lead from the state that the domain stands for where the whole run leads. [`run_script`] says what was written, how the run ended, and why.
