@@ -10,21 +10,21 @@
 //! `Outcome` (what a command reads and writes by the status that it answers), `Passing` (what a buffer has passed on).
 #![tactic(auto)]
 
+mod buffer;
 mod gate;
 mod input;
 mod mem_sink;
 mod mem_source;
-mod out;
 mod sink;
 mod source;
 mod std_io;
 mod writing;
 
+pub use buffer::Out;
 pub use gate::{Gate, OpenGate};
 pub use input::{InputError, read_input};
 pub use mem_sink::MemSink;
 pub use mem_source::MemSource;
-pub use out::Out;
 pub use sink::Sink;
 pub use source::Source;
 pub use std_io::{StdSink, StdSource};
