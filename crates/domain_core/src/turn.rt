@@ -4,6 +4,7 @@
 //! [`Domain::turn`], and of [`Domain::turn_told`], which makes no line of its own.
 
 ghost use Rattle.std.specs.Prelude.{◌≡◌, ◌≢◌, ◌<◌, ◌+◌, ◌≤◌, ◌-◌, ◌^◌, List, [], false, length, IfOk, OnOk, IfSome, IfNone};
+ghost use Rattle.eio_value.specs.declared.raised.Outcome.TheVariants as outcome;
 ghost use Rattle.fiber_step.specs.Standing.{ask_of};
 ghost use Rattle.fiber_step.specs.Stepping.{HasBodiesOf};
 ghost use Rattle.spec_machine.specs.Domain.{DomainState};
@@ -152,8 +153,9 @@ impl Domain {
         ensures texts { OnOk result (texts.new ≡ texts.old) }
     {
         // A match and no `?`: behind one the kit's prover fails, by a fault of its own.
-        match self.next_call(script, texts, fiber) {
-            Ok(ask) => self.answer(script, fiber, &ask, told),
+        let mut ask = Ask::Yield;
+        match self.next_call(script, texts, fiber, &mut ask) {
+            Ok(()) => self.answer(script, fiber, &ask, told),
             Err(error) => Err(error),
         }
     }
@@ -243,26 +245,60 @@ impl Domain {
         }
     }
 
-    /// The next call of a fiber, before which it has run its silent statements.
+    /// Writes the next call of a fiber into `ask`, before which it has run its silent statements.
     ///
     /// # Errors
     /// [`NoMemory`] where memory, or the numbers for raises, run out; the domain isn't used again then.
-    fn next_call(&mut self, script: &Script, texts: &mut Texts, fiber: u32) -> Result<Ask, NoMemory>
+    fn next_call(
+        &mut self,
+        script: &Script,
+        texts: &mut Texts,
+        fiber: u32,
+        ask: &mut Ask,
+    ) -> Result<(), NoMemory>
         requires runnable { IsRunnable script.now }
         requires stands { StandsForSome script.now texts.old (with_head fiber self.old) }
         requires owes { self.old.owed ≡ [] }
         requires going { self.old.halted ≡ false }
         requires texts { length script.now.texts ≤ length texts.old }
-        ensures calls { IfOk result (λ call. (l : DomainState) → StandsFor script.now texts.old (with_head fiber self.old) l → ComesTo script.now texts.new l fiber call self.new) }
-        ensures bodies { IfOk result (λ call. HasBodiesOf (nodes_of script.now) call) }
+        ensures calls { OnOk result ((l : DomainState) → StandsFor script.now texts.old (with_head fiber self.old) l → ComesTo script.now texts.new l fiber ask.new self.new) }
+        ensures bodies { OnOk result (HasBodiesOf (nodes_of script.now) ask.new) }
         ensures same { OnOk result (SameCounts self.old self.new) }
     {
         if let Some(again) = called_again(self.fibers.at(fiber).standing) {
-            return Ok(made_again(again));
+            *ask = made_again(again);
+            return Ok(());
         }
-        let came = self.came_to(fiber)?;
-        self.fibers
-            .settle(fiber, script, texts, &mut self.serial, &came)
+        if let Some(value) = self.value_for(fiber) {
+            return self
+                .fibers
+                .settle_value(fiber, script, texts, &mut self.serial, value, ask);
+        }
+        // A match and no `?`: behind one the kit's prover fails, by a fault of its own.
+        match self.came_to(fiber) {
+            Ok(came) => self
+                .fibers
+                .settle(fiber, script, texts, &mut self.serial, &came, ask),
+            Err(error) => Err(error),
+        }
+    }
+
+    /// The value that a fiber goes on with that doesn't make its call again, if it does. An outcome is large, and most moves need none.
+    fn value_for(&self, fiber: u32) -> Option<Value>
+        requires ready { IsReady self.now fiber }
+        requires live { RunsInLive self.now fiber }
+        ensures { IfSome result (λ value. GoesOnWith fiber (outcome.Ok value) self.now self.now) }
+    {
+        let found = self.fibers.at(fiber);
+        let (standing, context) = (found.standing, found.context);
+        match standing {
+            Standing::Ready(Next::GoesOn(value)) => Some(value),
+            Standing::Ready(Next::LooksUp) => match self.contexts.is_off(context) {
+                Some(_) => None,
+                None => Some(Value::Unit),
+            },
+            _ => None,
+        }
     }
 
     /// What a fiber goes on with that doesn't make its call again: where it finds its context off, a new raise of that.
