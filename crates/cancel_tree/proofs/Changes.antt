@@ -12,11 +12,12 @@ use Rattle.cancel_tree.specs.declared.kept.Jump.{Jump}
 use Rattle.cancel_tree.specs.declared.kept.KeptContext.{KeptContext}
 use Rattle.cancel_tree.specs.declared.kept.ContextKey.{ContextKey}
 use Rattle.cancel_tree.specs.Places.{place_at}
-use Rattle.cancel_tree.specs.KeptContext.{kept_at, context_of, listed, contexts_in, Stands, IsTree}
+use Rattle.cancel_tree.specs.KeptContext.{kept_at, context_of, listed, contexts_in, reason_count, Stands, IsTree}
 use Rattle.cancel_tree.specs.Endings.{HasNoLiveChild}
 use Rattle.cancel_tree.proofs.Finding.{place_at-number, below_found, Rise-append, AreBelow-next, place_at-append_other, place_at-append_itself, rest_of, Rise-rest, AreBelow-rest, place_at-rest_other, place_at-rest_itself, absent_past}
 use Rattle.cancel_tree.proofs.Listing.{length-listed, listed_set, listed_same, live_count-set, live_count-append, live_count-end}
-use Rattle.cancel_tree.proofs.Trees.{stands_there, live_is_placed, at_own}
+use Rattle.cancel_tree.proofs.Reasons.{counts_as, reason_count-append, reason_count-set}
+use Rattle.cancel_tree.proofs.Trees.{OffGoesOn, stands_there, live_is_placed, at_own, off_ends}
 
 -- A value of a slab changes
 
@@ -136,6 +137,9 @@ module _ (made : ℕ) (kept : Slab KeptContext) (places : List ContextKey) (tree
         λ p f. at_own places number p (sym e ∙ f),
       )
 
+  placed_below : (c : ℕ) (place : ContextKey) → place_at places c ≡ Some place → c < length (contexts_in made kept places)
+  placed_below c place at = subst (λ n. c < n) (sym (length-contexts_in made kept places)) (below_found made places c place tree.below at)
+
   -- A reason
 
   module _ (c : ℕ) (place : ContextKey) (context changed : KeptContext) (kept' : Slab KeptContext) (at : place_at places c ≡ Some place) (found : get kept place.key ≡ Some context)
@@ -156,6 +160,13 @@ module _ (made : ℕ) (kept : Slab KeptContext) (places : List ContextKey) (tree
     changed_list =
         listed_set made (λ x. context_of (kept_at kept places x)) (λ x. context_of (kept_at kept' places x)) c (below_found made places c place tree.below at) (λ x below apart. kept_others x apart)
         ∙ ap (slice_set (listed made (λ x. context_of (kept_at kept places x))) c) kept_itself
+
+    -- the count of reasons goes by what the context had and has
+    pub changed_count : reason_count (contexts_in made kept' places) + counts_as context.reason ≡ reason_count (contexts_in made kept places) + counts_as changed.reason
+    changed_count =
+        ap (λ contexts. reason_count contexts + counts_as context.reason) changed_list
+        ∙ ap (λ (there : Context). reason_count (slice_set (contexts_in made kept places) c (context_of (Some changed))) + counts_as there.reason) (sym (stands_there made kept places tree c place context at found))
+        ∙ reason_count-set (contexts_in made kept places) c (context_of (Some changed)) (placed_below c place at)
 
     pub changed_tree : slab_len kept' ≡ slab_len kept → kept'.capacity ≡ kept.capacity → IsTree made kept' places
     changed_tree many room = record {
@@ -198,6 +209,25 @@ module _ (made : ℕ) (kept : Slab KeptContext) (places : List ContextKey) (tree
         (λ key apart. others_there kept.slots place.key key (Some (with_reason context why)) apart)
         (as_many kept.slots place.key context (with_reason context why) found)
         refl
+
+    -- a context that isn't off has no reason of its own
+    had_none : off (contexts_in made kept places) c ≡ None → is_some context.reason ≡ false
+    had_none fresh = by (is_some context.reason) refl
+      where
+        by : (some : Bool) → is_some context.reason ≡ some → is_some context.reason ≡ false
+        by true e =
+            let goes : OffGoesOn (contexts_in made kept places) places c (Some place) = (at_own places c place at, ap (off (contexts_in made kept places)) (sym (place_at-number places c place at))) in
+            absurd (true≢false (sym e ∙ ap is_some (sym (off_ends made kept places tree c place context goes found e) ∙ fresh)))
+        by false e = e
+
+    pub cancelled_count : off (contexts_in made kept places) c ≡ None → reason_count (contexts_in made (with_value kept place.key (with_reason context why)) places) ≡ reason_count (contexts_in made kept places) + 1
+    cancelled_count fresh =
+        let counts =
+        changed_count c place context (with_reason context why) (with_value kept place.key (with_reason context why)) at found refl refl
+        (same_there kept.slots place.key context (with_reason context why) found)
+        (λ key apart. others_there kept.slots place.key key (Some (with_reason context why)) apart) in
+        let had : counts_as context.reason ≡ 0 = ap one_if (had_none fresh) in
+        omega (arith, counts, had)
 
     pub cancelled_list : takes_effect (contexts_in made kept places) c ≡ true → contexts_in made (with_value kept place.key (with_reason context why)) places ≡ cancel c why (contexts_in made kept places)
     cancelled_list effect =
@@ -253,6 +283,9 @@ module _ (made : ℕ) (kept : Slab KeptContext) (places : List ContextKey) (tree
         ∙ ap₂ (λ contexts context. contexts ++ context ∷ [])
         (listed_same made (λ x. context_of (kept_at kept' more x)) (λ x. context_of (kept_at kept places x)) kept_older_ones)
         (ap (λ there. context_of (option_and_then (λ (place : ContextKey). get kept' place.key) there)) new_there ∙ ap context_of updates.changed)
+
+    pub made_count : reason_count (contexts_in (made + 1) kept' more) ≡ reason_count (contexts_in made kept places)
+    made_count = ap reason_count made_list ∙ reason_count-append (contexts_in made kept places) (context_of (Some new_kept)) refl
 
     more_many : length more ≡ length places + 1
     more_many = length-append places (new_place ∷ [])
@@ -323,6 +356,14 @@ module _ (made : ℕ) (kept : Slab KeptContext) (places : List ContextKey) (tree
     ended_list =
         listed_set made (λ x. context_of (kept_at kept places x)) (λ x. context_of (kept_at kept' fewer x)) c (below_found made places c gone tree.below at) (λ x below apart. kept_others_left x apart)
         ∙ ap (λ found. slice_set (listed made (λ x. context_of (kept_at kept places x))) c (context_of (option_and_then (λ (place : ContextKey). get kept' place.key) found))) gone_there
+
+    pub ended_count : (context : KeptContext) → get kept gone.key ≡ Some context → reason_count (contexts_in made kept' fewer) + counts_as context.reason ≡ reason_count (contexts_in made kept places)
+    ended_count context found =
+        let counts : reason_count (contexts_in made kept' fewer) + counts_as context.reason ≡ reason_count (contexts_in made kept places) + counts_as never_made.reason =
+        ap (λ contexts. reason_count contexts + counts_as context.reason) ended_list
+        ∙ ap (λ (there : Context). reason_count (slice_set (contexts_in made kept places) c never_made) + counts_as there.reason) (sym (stands_there made kept places tree c gone context at found))
+        ∙ reason_count-set (contexts_in made kept places) c never_made (placed_below c gone at) in
+        counts ∙ (let same : reason_count (contexts_in made kept places) + 0 ≡ reason_count (contexts_in made kept places) = omega arith in same)
 
     gone_lives : (context_at (contexts_in made kept places) c).ended ≡ false
     gone_lives = let stood : Stands made kept places gone = tree.stands c gone at in ap (λ (context : Context). context.ended) (stands_there made kept places tree c gone stood.context at stood.found)

@@ -4,6 +4,7 @@ pub mod Forgotten
 pub mod Jumping
 pub mod Listing
 pub mod Once
+pub mod Reasons
 pub mod Striking
 pub mod Trees
 pub mod Waiting

@@ -5,7 +5,7 @@ use Rattle.spec_parts.specs.Contexts.{Context, goes_up_to}
 use Rattle.cancel_tree.specs.declared.kept.Jump.{Jump}
 use Rattle.cancel_tree.specs.declared.kept.KeptContext.{KeptContext}
 use Rattle.cancel_tree.specs.declared.kept.ContextKey.{ContextKey}
-use Rattle.cancel_tree.specs.KeptContext.{contexts_in, IsTree}
+use Rattle.cancel_tree.specs.KeptContext.{contexts_in, reason_count, IsTree}
 use Rattle.cancel_tree.specs.Places.{place_at}
 
 -- one step up from what is kept
@@ -50,8 +50,9 @@ pub record HasJumps (made : ℕ) (kept : Slab KeptContext) (places : List Contex
   pub jumps : (c : ℕ) (place : ContextKey) (context : KeptContext) → place_at places c ≡ Some place → get kept place.key ≡ Some context → (jump : Jump) → context.jump ≡ Some jump
       → JumpsTo (contexts_in made kept places) places c jump.place
 
--- the invariant of the tree, whose places have so much room
-pub record IsSound (made : ℕ) (kept : Slab KeptContext) (places : List ContextKey) (capacity : ℕ) : Type 0 where
+-- the invariant of the tree, of which so many have a reason, and whose places have so much room
+pub record IsSound (made reasons : ℕ) (kept : Slab KeptContext) (places : List ContextKey) (capacity : ℕ) : Type 0 where
   pub tree : IsTree made kept places
   pub jumps : HasJumps made kept places
+  pub counted : reason_count (contexts_in made kept places) ≡ reasons
   pub room : 4096 ≤ capacity

@@ -1,5 +1,5 @@
 -- Contexts as the code keeps them: the live ones in a slab, found by their places. Of an ended one nothing is kept but that it was made.
-use Rattle.std.specs.Prelude.{◌≡◌, ℕ, zero, suc, ◌<◌, ◌≤◌, false, List, [], ◌∷◌, ◌++◌, length, Option, Some, None}
+use Rattle.std.specs.Prelude.{◌≡◌, ℕ, zero, suc, ◌<◌, ◌≤◌, false, List, [], ◌∷◌, ◌++◌, length, Option, Some, None, is_some, count_by}
 use Rattle.std.specs.Option.{option_map, option_and_then}
 use Rattle.slab.specs.Slab.{Slab, get, slab_len}
 use Rattle.spec_parts.specs.Contexts.{Context, never_made, live_count}
@@ -24,6 +24,10 @@ listed (suc n) at = listed n at ++ at n ∷ []
 -- all that were made, in which an ended one is forgotten: it stands as `never_made`
 unfoldable pub contexts_in : (made : ℕ) → Slab KeptContext → List ContextKey → List Context
 contexts_in made kept places = listed made (λ c. context_of (kept_at kept places c))
+
+-- how many have a reason of their own
+abbrev pub reason_count : List Context → ℕ
+reason_count contexts = count_by (λ context. is_some context.reason) contexts
 
 -- what stands at a place: the context of that number, which was made; its parent is older and stands at its place
 pub record Stands (made : ℕ) (kept : Slab KeptContext) (places : List ContextKey) (place : ContextKey) : Type 0 where

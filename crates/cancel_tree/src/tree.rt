@@ -31,6 +31,8 @@ pub(crate) struct Tree {
     kept: Slab<KeptContext>,
     /// Their places, in order of number.
     places: VecDeque<ContextKey>,
+    /// How many of those that live have a reason of their own.
+    reasons: u32,
 }
 
 impl Model for Tree {
@@ -45,7 +47,7 @@ impl Model for Tree {
 
     ghost view = { λ t. contexts_in t.made t.kept t.places.items };
 
-    ghost invariant = { λ t. IsSound t.made t.kept t.places.items (deque_capacity t.places) };
+    ghost invariant = { λ t. IsSound t.made t.reasons t.kept t.places.items (deque_capacity t.places) };
 }
 
 impl Tree {
@@ -57,6 +59,7 @@ impl Tree {
             made: 0,
             kept: Slab::with_capacity(alloc, MOST_CONTEXTS)?,
             places: VecDeque::with_capacity(alloc, MOST_CONTEXTS)?,
+            reasons: 0,
         })
     }
 
@@ -91,6 +94,10 @@ impl Tree {
     pub(crate) fn off(&self, c: u32) -> Option<Plain>
         ensures { result ≡ contexts.off self.now c }
     {
+        // Where none has a reason, no way leads to one.
+        if self.reasons == 0 {
+            return None;
+        }
         let mut next = place_of(&self.places, c);
         // The label is the loop's name in its proof.
         'way: while let Some(place) = next {
@@ -133,6 +140,7 @@ impl Tree {
             return false;
         }
         self.kept[place.key].reason = Some(why);
+        self.reasons += 1;
         true
     }
 
@@ -172,6 +180,7 @@ impl Tree {
     {
         let index = self.places.partition_point(|place| place.number < c);
         let place = self.places.remove(index).unwrap();
-        self.kept.remove(place.key);
+        let gone = self.kept.remove(place.key);
+        self.reasons -= u32::from(gone.reason.is_some());
     }
 }

@@ -48,7 +48,6 @@ abbrev one_if : Bool → ℕ
 one_if b = cond b 1 0
 
 pub counted : {X : Type 0} (slot : Option X) (slots : List (Option X)) → count_by is_some (slot ∷ slots) ≡ one_if (is_some slot) + count_by is_some slots
-unfolding one_if
 counted {X} slot slots = sum_by-cons (λ (slot : Option X). cond (is_some slot) 1 0) slot slots
 
 -- what stands there

@@ -175,11 +175,12 @@ module _
     moves_to,
   )
 
-  -- the same of the line and the domain that were made of it
-  pub made_turn : (made : Line) (kept : KeptDomain) → old.lines < old.budget → texts ≡ old_texts
-      → made ≡ record { stamp = mid.stamp + 1; domain = mid.number; fiber = told.fiber; did = told.did; reply = told.reply }
+  -- the same of the stamp and the domain that were made of it
+  pub made_turn : (stamp : ℕ) (kept : KeptDomain) → old.lines < old.budget → texts ≡ old_texts
+      → stamp ≡ mid.stamp + 1
       → kept ≡ record mid { stamp = mid.stamp + 1; lines = mid.lines + 1 }
-      → turns.Turns calls strikes receives extras learns script (Moved made) old_texts texts old kept before behind
-  made_turn made kept few table line_as new_as =
-      subst (λ (ln : Line). turns.Turns calls strikes receives extras learns script (Moved ln) old_texts texts old kept before behind) (sym line_as)
+      → turns.Turns calls strikes receives extras learns script (Moved (turns.line_told stamp kept.number told)) old_texts texts old kept before behind
+  made_turn stamp kept few table stamp_is new_as =
+      subst (λ (ln : Line). turns.Turns calls strikes receives extras learns script (Moved ln) old_texts texts old kept before behind)
+      (sym (ap₂ (λ (n : ℕ) (k : KeptDomain). turns.line_told n k.number told) stamp_is new_as))
       (subst (λ (k : KeptDomain). turns.Turns calls strikes receives extras learns script (Moved line) old_texts texts old k before behind) (sym new_as) (turned few table))

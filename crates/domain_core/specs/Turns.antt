@@ -22,6 +22,9 @@ use Rattle.spec_machine.specs.Preparing.{prepared}
 use Rattle.spec_machine.specs.Runs.{DomainMoves, message_stamp}
 use Rattle.domain_core.specs.declared.turn.Turn.{Turn}
 use Rattle.domain_core.specs.declared.turn.Turn.TheVariants.{Moved, Idle, Spent, Halted}
+use Rattle.domain_core.specs.declared.told.Told.{Told}
+use Rattle.domain_core.specs.declared.turn.Turned.{Turned}
+use Rattle.domain_core.specs.declared.turn.Turned.TheVariants as turned
 use Rattle.law_domain.specs.Sound.Laws.{body_of}
 use Rattle.law_domain.specs.Well.WellStates.{StandsWell}
 use Rattle.fiber_step.specs.Throwing.{IsGrown}
@@ -46,6 +49,17 @@ pub record Starts (script : Script) (body most : ℕ) (is_mocked : Bool) (kept :
   pub mocked : kept.mocked ≡ is_mocked
   pub stamp : kept.stamp ≡ 0
   pub lines : kept.lines ≡ 0
+
+-- the line with this stamp of the domain with this number, of which this was told
+abbrev pub line_told : (stamp number : ℕ) → Told → Line
+line_told stamp number told = record { stamp = stamp; domain = number; fiber = told.fiber; did = told.did; reply = told.reply }
+
+-- what a turn came to, with its line, where what that says was told
+abbrev pub turned_to : (number : ℕ) → Told → Turned → Turn
+turned_to number told (turned.Moved stamp) = Moved (line_told stamp number told)
+turned_to number told turned.Idle = Idle
+turned_to number told turned.Spent = Spent
+turned_to number told turned.Halted = Halted
 
 abbrev pub has_won : Struck → Bool
 has_won (struck.Won stamp) = true

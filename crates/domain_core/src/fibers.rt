@@ -244,7 +244,7 @@ impl Fibers {
             .handle(ask, context, handler, registered)
     }
 
-    /// The fiber runs its silent statements up to its next call.
+    /// The fiber runs its silent statements up to its next call, which is written into `ask`.
     ///
     /// # Errors
     /// [`NoMemory`] where memory runs out.
@@ -255,17 +255,42 @@ impl Fibers {
         texts: &mut Texts,
         serials: &mut u64,
         came: &Outcome,
-    ) -> Result<Ask, NoMemory>
+        ask: &mut Ask,
+    ) -> Result<(), NoMemory>
         requires lives { IsSome (kept_at self.old number) }
         requires placed { IsPlacedAt (nodes_of script.now) number self.old }
         requires texts { length script.now.texts ≤ length texts.old }
         requires came { HasTextsOfOutcome texts.old came.now }
-        ensures { IfOk result (λ call. Settles (nodes_of script.now) came.now number self.old texts.old serials.old call self.new texts.new serials.new) }
+        ensures { OnOk result (Settles (nodes_of script.now) came.now number self.old texts.old serials.old ask.new self.new texts.new serials.new) }
     {
         let key = key_of(&self.keys, number);
         self.kept[key]
             .frames
-            .settle_in(script, texts, serials, came)
+            .settle_in(script, texts, serials, came, ask)
+    }
+
+    /// The same with a value.
+    ///
+    /// # Errors
+    /// [`NoMemory`] where memory runs out.
+    pub(crate) fn settle_value(
+        &mut self,
+        number: u32,
+        script: &Script,
+        texts: &mut Texts,
+        serials: &mut u64,
+        value: Value,
+        ask: &mut Ask,
+    ) -> Result<(), NoMemory>
+        requires lives { IsSome (kept_at self.old number) }
+        requires placed { IsPlacedAt (nodes_of script.now) number self.old }
+        requires texts { length script.now.texts ≤ length texts.old }
+        ensures { OnOk result (Settles (nodes_of script.now) (outcome.Ok value) number self.old texts.old serials.old ask.new self.new texts.new serials.new) }
+    {
+        let key = key_of(&self.keys, number);
+        self.kept[key]
+            .frames
+            .settle_value(script, texts, serials, value, ask)
     }
 
     /// The fiber has ended.

@@ -27,4 +27,5 @@ mod told;
 mod turn;
 
 pub use domain::Domain;
-pub use turn::Turn;
+pub use told::Told;
+pub use turn::{Turn, Turned};

@@ -1,6 +1,9 @@
 //! What a move tells, before it has its stamp. It is large, so that calls write it in its place and don't hand it on.
 
-use trace_lines::{Did, Said2};
+ghost use Rattle.std.specs.Prelude.{◌≡◌};
+ghost use Rattle.domain_core.specs.Turns.{line_told};
+
+use trace_lines::{Did, Line, Said2};
 
 /// The fiber that called, what it did, and what it was answered.
 #[derive(Clone, Copy)]
@@ -11,12 +14,25 @@ pub struct Told {
 }
 
 impl Told {
-    /// What stands there before the move was made.
-    pub(crate) fn nothing(fiber: u32) -> Told {
+    /// What stands there before a move was made.
+    pub fn nothing() -> Told {
         Told {
-            fiber,
+            fiber: 0,
             did: Did::Limit,
             reply: Said2::Nothing,
+        }
+    }
+
+    /// The line of it, with this stamp, of the domain with this number.
+    pub fn line(&self, stamp: u64, domain: u8) -> Line
+        ensures { result ≡ line_told stamp domain self.now }
+    {
+        Line {
+            stamp,
+            domain,
+            fiber: self.fiber,
+            did: self.did,
+            reply: self.reply,
         }
     }
 }

@@ -1,9 +1,10 @@
 //! A turn of a domain: the first strike that it owes, else a message, else the head of the ready list.
 //!
 //! No form that is built waits on an object or submits a job, so that no message comes. The theorem is the contract of
-//! [`Domain::turn`].
+//! [`Domain::turn`], and of [`Domain::turn_told`], which makes no line of its own.
 
 ghost use Rattle.std.specs.Prelude.{◌≡◌, ◌≢◌, ◌<◌, ◌+◌, ◌≤◌, ◌-◌, ◌^◌, List, [], false, length, IfOk, OnOk, IfSome, IfNone};
+ghost use Rattle.eio_value.specs.declared.raised.Outcome.TheVariants as outcome;
 ghost use Rattle.fiber_step.specs.Standing.{ask_of};
 ghost use Rattle.fiber_step.specs.Stepping.{HasBodiesOf};
 ghost use Rattle.spec_machine.specs.Domain.{DomainState};
@@ -15,7 +16,7 @@ ghost use Rattle.domain_core.specs.Conditions.{RunsInLive};
 ghost use Rattle.domain_core.specs.Keyed.{call_of};
 ghost use Rattle.domain_core.specs.Moving.{with_head, ComesTo, GoesOnWith, IsOfScope, IsReady, MayAnswer, MovesOwn};
 ghost use Rattle.domain_core.specs.Objects.{AreFor};
-ghost use Rattle.domain_core.specs.Turns.{StandsFor, StandsForSome, Turns};
+ghost use Rattle.domain_core.specs.Turns.{StandsFor, StandsForSome, Turns, turned_to};
 
 use crate::domain::Domain;
 use crate::standing::{Again, Next, Standing};
@@ -37,6 +38,31 @@ pub enum Turn {
     Spent,
     /// The domain has met a limit.
     Halted,
+}
+
+/// What a turn of a domain came to where what a line says stands in the caller's place.
+#[derive(Clone, Copy)]
+pub enum Turned {
+    /// The domain made a line with this stamp.
+    Moved(u64),
+    /// There was nothing to do: no obligation, no message, no fiber that can move and, where mocked, no timer.
+    Idle,
+    /// The domain has made as many lines as it may.
+    Spent,
+    /// The domain has met a limit.
+    Halted,
+}
+
+/// The same with the line, where one was made.
+fn turn_of(turned: Turned, number: u8, told: &Told) -> Turn
+    ensures { result ≡ turned_to number told.now turned }
+{
+    match turned {
+        Turned::Moved(stamp) => Turn::Moved(told.line(stamp, number)),
+        Turned::Idle => Turn::Idle,
+        Turned::Spent => Turn::Spent,
+        Turned::Halted => Turn::Halted,
+    }
 }
 
 impl Domain {
@@ -61,27 +87,51 @@ impl Domain {
         ensures objects { OnOk result (AreFor self.new (O.is_mocked objects.new) (O.terms objects.new) (O.seen objects.new) (O.is_open objects.new)) }
         ensures stands { OnOk result (StandsForSome script.now texts.new self.new) }
     {
+        let mut told = Told::nothing();
+        let turned = self.turn_told(script, texts, objects, &mut told)?;
+        Ok(turn_of(turned, self.number, &told))
+    }
+
+    /// The same, where what the line says is written into `told`: it is large, and most lines are looked at by nobody. Where no line is made,
+    /// what stands there is of no use.
+    ///
+    /// # Errors
+    /// [`NoMemory`] where memory, or the numbers for raises, run out.
+    pub fn turn_told<O: Extras>(
+        &mut self,
+        script: &Script,
+        texts: &mut Texts,
+        objects: &mut O,
+        told: &mut Told,
+    ) -> Result<Turned, NoMemory>
+        requires runnable { IsRunnable script.now }
+        requires stands { StandsForSome script.now texts.old self.old }
+        requires objects { AreFor self.old (O.is_mocked objects.old) (O.terms objects.old) (O.seen objects.old) (O.is_open objects.old) }
+        requires early { self.old.stamp < 2 ^ 60 - 4 }
+        requires texts { length script.now.texts ≤ length texts.old }
+        ensures turns { IfOk result (λ it. Turns O.calls O.strikes O.receives O.extras O.learns script.now (turned_to self.new.number told.new it) texts.old texts.new self.old self.new objects.old objects.new) }
+        ensures objects { OnOk result (AreFor self.new (O.is_mocked objects.new) (O.terms objects.new) (O.seen objects.new) (O.is_open objects.new)) }
+        ensures stands { OnOk result (StandsForSome script.now texts.new self.new) }
+    {
         if self.halted {
-            return Ok(Turn::Halted);
+            return Ok(Turned::Halted);
         }
         if self.lines >= self.budget {
-            return Ok(Turn::Spent);
+            return Ok(Turned::Spent);
         }
         if let Some(strike) = self.owed.pop() {
-            let mut told = Told::nothing(strike.fiber);
-            self.strike(strike, &mut told)?;
-            return Ok(Turn::Moved(self.next_line(&told)));
+            self.strike(strike, told)?;
+            return Ok(Turned::Moved(self.next_stamp()));
         }
         if objects.receive().is_some() {
             // Nobody waits on an object, and no job was submitted (`AreFor`).
             unreachable!()
         }
         let Some(fiber) = self.ready.pop() else {
-            return Ok(Turn::Idle);
+            return Ok(Turned::Idle);
         };
-        let mut told = Told::nothing(fiber);
-        self.move_of(script, texts, fiber, &mut told)?;
-        Ok(Turn::Moved(self.next_line(&told)))
+        self.move_of(script, texts, fiber, told)?;
+        Ok(Turned::Moved(self.next_stamp()))
     }
 
     /// The move of the fiber that stood first in the ready list: its silent statements, and its next call.
@@ -103,8 +153,9 @@ impl Domain {
         ensures texts { OnOk result (texts.new ≡ texts.old) }
     {
         // A match and no `?`: behind one the kit's prover fails, by a fault of its own.
-        match self.next_call(script, texts, fiber) {
-            Ok(ask) => self.answer(script, fiber, &ask, told),
+        let mut ask = Ask::Yield;
+        match self.next_call(script, texts, fiber, &mut ask) {
+            Ok(()) => self.answer(script, fiber, &ask, told),
             Err(error) => Err(error),
         }
     }
@@ -194,26 +245,60 @@ impl Domain {
         }
     }
 
-    /// The next call of a fiber, before which it has run its silent statements.
+    /// Writes the next call of a fiber into `ask`, before which it has run its silent statements.
     ///
     /// # Errors
     /// [`NoMemory`] where memory, or the numbers for raises, run out; the domain isn't used again then.
-    fn next_call(&mut self, script: &Script, texts: &mut Texts, fiber: u32) -> Result<Ask, NoMemory>
+    fn next_call(
+        &mut self,
+        script: &Script,
+        texts: &mut Texts,
+        fiber: u32,
+        ask: &mut Ask,
+    ) -> Result<(), NoMemory>
         requires runnable { IsRunnable script.now }
         requires stands { StandsForSome script.now texts.old (with_head fiber self.old) }
         requires owes { self.old.owed ≡ [] }
         requires going { self.old.halted ≡ false }
         requires texts { length script.now.texts ≤ length texts.old }
-        ensures calls { IfOk result (λ call. (l : DomainState) → StandsFor script.now texts.old (with_head fiber self.old) l → ComesTo script.now texts.new l fiber call self.new) }
-        ensures bodies { IfOk result (λ call. HasBodiesOf (nodes_of script.now) call) }
+        ensures calls { OnOk result ((l : DomainState) → StandsFor script.now texts.old (with_head fiber self.old) l → ComesTo script.now texts.new l fiber ask.new self.new) }
+        ensures bodies { OnOk result (HasBodiesOf (nodes_of script.now) ask.new) }
         ensures same { OnOk result (SameCounts self.old self.new) }
     {
         if let Some(again) = called_again(self.fibers.at(fiber).standing) {
-            return Ok(made_again(again));
+            *ask = made_again(again);
+            return Ok(());
         }
-        let came = self.came_to(fiber)?;
-        self.fibers
-            .settle(fiber, script, texts, &mut self.serial, &came)
+        if let Some(value) = self.value_for(fiber) {
+            return self
+                .fibers
+                .settle_value(fiber, script, texts, &mut self.serial, value, ask);
+        }
+        // A match and no `?`: behind one the kit's prover fails, by a fault of its own.
+        match self.came_to(fiber) {
+            Ok(came) => self
+                .fibers
+                .settle(fiber, script, texts, &mut self.serial, &came, ask),
+            Err(error) => Err(error),
+        }
+    }
+
+    /// The value that a fiber goes on with that doesn't make its call again, if it does. An outcome is large, and most moves need none.
+    fn value_for(&self, fiber: u32) -> Option<Value>
+        requires ready { IsReady self.now fiber }
+        requires live { RunsInLive self.now fiber }
+        ensures { IfSome result (λ value. GoesOnWith fiber (outcome.Ok value) self.now self.now) }
+    {
+        let found = self.fibers.at(fiber);
+        let (standing, context) = (found.standing, found.context);
+        match standing {
+            Standing::Ready(Next::GoesOn(value)) => Some(value),
+            Standing::Ready(Next::LooksUp) => match self.contexts.is_off(context) {
+                Some(_) => None,
+                None => Some(Value::Unit),
+            },
+            _ => None,
+        }
     }
 
     /// What a fiber goes on with that doesn't make its call again: where it finds its context off, a new raise of that.
@@ -244,22 +329,16 @@ impl Domain {
         }
     }
 
-    /// One more line was made, with the next stamp: this one.
-    fn next_line(&mut self, told: &Told) -> Line
+    /// One more line was made; its stamp is the next.
+    fn next_stamp(&mut self) -> u64
         requires early { self.old.stamp < 2 ^ 60 }
         requires few { self.old.lines < self.old.budget }
-        ensures line { result ≡ record { stamp = self.old.stamp + 1; domain = self.old.number; fiber = told.now.fiber; did = told.now.did; reply = told.now.reply } }
+        ensures stamp { result ≡ self.old.stamp + 1 }
         ensures counts { self.new ≡ record self.old { stamp = self.old.stamp + 1; lines = self.old.lines + 1 } }
     {
         self.stamp += 1;
         self.lines += 1;
-        Line {
-            stamp: self.stamp,
-            domain: self.number,
-            fiber: told.fiber,
-            did: told.did,
-            reply: told.reply,
-        }
+        self.stamp
     }
 }
 

@@ -25,7 +25,8 @@ impl Fiber {
     ghost use Rattle.eio_value.specs.declared.raised.Outcome.TheVariants as outcome;
     ghost use Rattle.script_forms.specs.declared.node.Node.{Node as Begun};
     ghost use Rattle.fiber_step.specs.Settling.{HasComeTo};
-    ghost use Rattle.fiber_step.specs.Turning.{with_mark, next_call, IsTurnOrRaise};
+    ghost use Rattle.fiber_step.specs.Turning.{with_mark, next_behind, next_call, HasItsParts, IsTurnOrRaise};
+    ghost use Rattle.fiber_step.specs.declared.progress.Progress.TheVariants as progress;
 
     /// Takes the next item, to which a value comes.
     ///
@@ -68,7 +69,8 @@ impl Fiber {
         }
     }
 
-    /// Goes on with what came, a value or an exception, up to the next call, or to its end, which is a call too.
+    /// Goes on with what came, a value or an exception, up to the next call, or to its end, which is a call too. The call is written into
+    /// `ask`, since it is large.
     ///
     /// # Errors
     /// [`NoMemory`] where memory runs out, or the numbers of raises (of 64 bits) or of texts (of 32). Then the fiber isn't used
@@ -79,22 +81,80 @@ impl Fiber {
         texts: &mut Texts,
         serial: &mut u64,
         came: &Outcome,
-    ) -> Result<Ask, NoMemory>
+        ask: &mut Ask,
+    ) -> Result<(), NoMemory>
         requires items { ArePlaced (nodes_of script.now) self.old.items }
         requires texts { length script.now.texts ≤ length texts.old }
         requires came { HasTextsOfOutcome texts.old came.now }
-        ensures settled { IfOk result (λ call. SettlesTo (nodes_of script.now) came.now self.old (shared_by texts.old serial.old) call self.new (shared_by texts.new serial.new)) }
+        ensures settled { OnOk result (SettlesTo (nodes_of script.now) came.now self.old (shared_by texts.old serial.old) ask.new self.new (shared_by texts.new serial.new)) }
         ensures items { OnOk result (ArePlaced (nodes_of script.now) self.new.items) }
-        ensures bodies { IfOk result (λ call. HasBodiesOf (nodes_of script.now) call) }
+        ensures bodies { OnOk result (HasBodiesOf (nodes_of script.now) ask.new) }
         ensures grown { IsGrown texts.old texts.new }
     {
-        let mut progress = self.receive(came, texts)?;
+        // A match and no `?`: behind one the kit's prover fails, by a fault of its own.
+        match self.receive(came, texts) {
+            Ok(first) => self.go_on(script, texts, serial, first, ask),
+            Err(error) => Err(error),
+        }
+    }
+
+    /// The same with a value, for which no outcome has to be made.
+    ///
+    /// # Errors
+    /// [`NoMemory`] as for [`Fiber::settle_in`].
+    pub fn settle_value(
+        &mut self,
+        script: &Script,
+        texts: &mut Texts,
+        serial: &mut u64,
+        value: Value,
+        ask: &mut Ask,
+    ) -> Result<(), NoMemory>
+        requires items { ArePlaced (nodes_of script.now) self.old.items }
+        requires texts { length script.now.texts ≤ length texts.old }
+        ensures settled { OnOk result (SettlesTo (nodes_of script.now) (outcome.Ok value) self.old (shared_by texts.old serial.old) ask.new self.new (shared_by texts.new serial.new)) }
+        ensures items { OnOk result (ArePlaced (nodes_of script.now) self.new.items) }
+        ensures bodies { OnOk result (HasBodiesOf (nodes_of script.now) ask.new) }
+        ensures grown { IsGrown texts.old texts.new }
+    {
+        self.go_on(script, texts, serial, Progress::GoesOn(value), ask)
+    }
+
+    /// Goes on in turns from what the first came to, up to the next call, which is written into `ask`.
+    ///
+    /// # Errors
+    /// [`NoMemory`] as for [`Fiber::settle_in`].
+    fn go_on(
+        &mut self,
+        script: &Script,
+        texts: &mut Texts,
+        serial: &mut u64,
+        first: Progress,
+        ask: &mut Ask,
+    ) -> Result<(), NoMemory>
+        requires items { ArePlaced (nodes_of script.now) self.old.items }
+        requires texts { length script.now.texts ≤ length texts.old }
+        requires parts { HasItsParts (nodes_of script.now) texts.old first }
+        ensures come { OnOk result (HasComeTo (nodes_of script.now) (next_behind (nodes_of script.now) first self.old) (shared_by texts.old serial.old) (progress.Calls ask.new) self.new (shared_by texts.new serial.new)) }
+        ensures grown { IsGrown texts.old texts.new }
+    {
+        let mut progress = first;
         // The label is the loop's name in its proof.
         'turns: loop {
+            // Matches and no `?`: behind one the kit's prover fails, by a fault of its own.
             match progress {
-                Progress::GoesOn(value) => progress = self.turn(script, value)?,
-                Progress::Raises(what) => progress = self.raise(what, texts, serial)?,
-                Progress::Calls(call) => return Ok(call),
+                Progress::GoesOn(value) => match self.turn(script, value) {
+                    Ok(next) => progress = next,
+                    Err(error) => return Err(error),
+                },
+                Progress::Raises(what) => match self.raise(what, texts, serial) {
+                    Ok(next) => progress = next,
+                    Err(error) => return Err(error),
+                },
+                Progress::Calls(call) => {
+                    *ask = call;
+                    return Ok(());
+                }
             }
         }
     }
@@ -125,13 +185,17 @@ impl Fiber {
         let before = texts.len();
         let mut next = *serial;
         let mut copy = self.try_clone()?;
-        let settled = copy.settle_in(script, texts, &mut next, came);
-        if settled.is_err() {
-            texts.truncate(before);
-            return settled;
+        let mut ask = Ask::Yield;
+        match copy.settle_in(script, texts, &mut next, came, &mut ask) {
+            Ok(()) => {
+                *self = copy;
+                *serial = next;
+                Ok(ask)
+            }
+            Err(error) => {
+                texts.truncate(before);
+                Err(error)
+            }
         }
-        *self = copy;
-        *serial = next;
-        settled
     }
 }

@@ -1,9 +1,8 @@
 -- From a run in code to what is due to the whole input.
-use Rattle.std.proofs.Common.{◌≡◌, ◌≢◌, ℕ, List, ◌++◌, Some, None, IfSome, Result, Ok, Err, refl, ap, sym, subst, ◌∙◌}
+use Rattle.std.proofs.Common.{◌≡◌, ◌≢◌, ℕ, List, [], ◌++◌, Some, None, IfSome, Result, Ok, Err, refl, ap, sym, subst, ◌∙◌}
 use Rattle.std.specs.Prelude.{IfOk, Bool, true, false}
 use Rattle.std.specs.declared.option.Option.{Option}
 use Rattle.std.specs.Io.KnownBytes.{Appends}
-use Rattle.std.proofs.KnownBytes.{Appends-trans}
 use Rattle.eio_value.specs.declared.raised.Outcome.{Outcome}
 use Rattle.eio_value.specs.declared.raised.Outcome.TheVariants as outcome
 use Rattle.spec_script.specs.Inputs.{mocked_script}
@@ -12,9 +11,11 @@ use Rattle.spec_script.specs.Scripts.{Script}
 use Rattle.mock_backend.specs.Today.{built_today}
 use Rattle.trace_out.specs.Causes.{AppendsFront}
 use Rattle.trace_out.specs.Input.{ReadsInput}
+use Rattle.trace_out.specs.Passing.{PassesOn}
 use Rattle.trace_out.specs.Outcome.{Due, HasRead, ReadsFor, WritesFor}
 use Rattle.trace_lines.specs.declared.status.Status.TheVariants as status
-use Rattle.trace_out.proofs.Appended.{front_after, front_longer}
+use Rattle.trace_out.proofs.Appended.{front_longer}
+use Rattle.trace_out.proofs.Passed.{all_passed, front_passed}
 use Rattle.spec_machine.specs.declared.Ending.{Ending}
 use Rattle.spec_machine.specs.declared.Ending.TheVariants as ending
 use Rattle.spec_machine.specs.Answers.{Answer, ended, ran, ran_if, mocked}
@@ -42,19 +43,11 @@ ran_text script n = refl
 pub front_of_trace : (old now : Option (List ℕ)) (script : Script) (n : ℕ) → AppendsFront old now (trace script (run script n).moves) → AppendsFront old now (ran script n).text
 front_of_trace old now script n front = subst (AppendsFront old now) (sym (ran_text script n)) (front_longer old now _ _ front)
 
-pub front_of_text : (old mid now : Option (List ℕ)) (script : Script) (n : ℕ) → Appends old mid (trace script (run script n).moves)
-    → AppendsFront mid now (last_line (ending_in script (run script n).last) (run script n).last) → AppendsFront old now (ran script n).text
-front_of_text old mid now script n traced front = subst (AppendsFront old now) (sym (ran_text script n)) (front_after old mid now _ _ traced front)
-
-pub whole_text : (old mid now : Option (List ℕ)) (script : Script) (n : ℕ) → Appends old mid (trace script (run script n).moves)
-    → Appends mid now (last_line (ending_in script (run script n).last) (run script n).last) → Appends old now (ran script n).text
-whole_text old mid now script n traced appended = subst (Appends old now) (sym (ran_text script n)) (Appends-trans old mid now _ _ traced appended)
-
--- the line behind the trace, or a front of it, completes the text, or a front of it
-pub text_with_line : (old mid now : Option (List ℕ)) (script : Script) (n : ℕ) (result : Result Ending RunFault) → Appends old mid (trace script (run script n).moves)
-    → WritesText mid now (last_line (ending_in script (run script n).last) (run script n).last) result → WritesText old now (ran script n).text result
-text_with_line old mid now script n (Ok e) traced writes = whole_text old mid now script n traced writes
-text_with_line old mid now script n (Err it) traced writes = front_of_text old mid now script n traced writes
+-- the line behind the trace, put behind what is held back, completes the text, or a front of it
+pub text_with_line : (old mid now : Option (List ℕ)) (pending : List ℕ) (script : Script) (n : ℕ) (result : Result Ending RunFault) → PassesOn old mid [] (trace script (run script n).moves) pending
+    → WritesText mid now (pending ++ last_line (ending_in script (run script n).last) (run script n).last) result → WritesText old now (ran script n).text result
+text_with_line old mid now pending script n (Ok e) traced writes = subst (Appends old now) (sym (ran_text script n)) (all_passed old mid now [] _ pending _ traced writes)
+text_with_line old mid now pending script n (Err it) traced writes = subst (AppendsFront old now) (sym (ran_text script n)) (front_passed old mid now [] _ pending _ traced writes)
 
 -- ## Of an input
 

@@ -2,10 +2,8 @@
 use Rattle.std.proofs.Common.{◌≡◌, ℕ, suc, ◌+◌, ◌-◌, ◌<◌, ◌≤◌, true, List, [], ◌∷◌, ◌++◌, length, Some, None, refl, ap, sym, ◌∙◌, subst, append_assoc, append-nil, length-append, arith}
 use Rattle.std.specs.Prelude.{All, slice_get, Result, Ok, Err, IsErr}
 use Rattle.std.specs.declared.option.Option.{Option}
-use Rattle.std.specs.Io.KnownBytes.{Appends}
 use Rattle.std.specs.List.{AllByRecursion as Each}
 use Rattle.std.specs.Option.{unwrap_or}
-use Rattle.std.proofs.KnownBytes.{Appends-nil, Appends-trans}
 use Rattle.std.proofs.lemmas.Grind.{flat_map-append}
 use Rattle.std.proofs.lemmas.List.Elements.{All-from_recursion}
 use Rattle.eio_value.specs.declared.value.TextId.{TextId}
@@ -16,8 +14,10 @@ use Rattle.spec_script.specs.Scripts.{Script}
 use Rattle.spec_script.specs.Syntax.{Block, Begins, Done}
 use Rattle.trace_lines.specs.declared.line.Line.{Line}
 use Rattle.trace_out.specs.Causes.{AppendsFront}
+use Rattle.trace_out.specs.Passing.{PassesOn}
 use Rattle.trace_lines.specs.TraceTexts.{CanTrace, trace_text}
-use Rattle.trace_out.proofs.Appended.{front_of_whole, front_after, front_longer}
+use Rattle.trace_out.proofs.Appended.{front_longer}
+use Rattle.trace_out.proofs.Passed.{front_passed, front_written, passes_more, passes_none}
 use Rattle.spec_machine.specs.Domain.{DomainState}
 use Rattle.spec_machine.specs.Labels.{Label, Inner, Called, Struck, Mocked, Took}
 use Rattle.spec_machine.specs.Mock.{Mock, Moved, move, moves, opening, opening_domain, first_body}
@@ -97,23 +97,23 @@ names_stand n texts names within among = All-from_recursion (HasText texts) name
 
 -- ## The run so far
 
--- what was written and what is left are parts of the whole run
-pub record IsPart (script : Script) (steps : ℕ) (old now : Option (List ℕ)) (made : ℕ) (texts : List (List ℕ)) (kept : KeptDomain) : Type 0 where
+-- what was written, what is held back, and what is left are parts of the whole run
+pub record IsPart (script : Script) (steps : ℕ) (old now : Option (List ℕ)) (pending : List ℕ) (made : ℕ) (texts : List (List ℕ)) (kept : KeptDomain) : Type 0 where
   pub state : Mock
   pub stands : StandsFor script texts kept state.local
   pub before : List Moved
-  pub appended : Appends old now (trace script before)
+  pub passed : PassesOn old now [] (trace script before) pending
   pub goes : moves script steps (opening script) ≡ before ++ moves script (steps - made) state
   pub leads : last_after (opening script) (moves script steps (opening script)) ≡ last_after state (moves script (steps - made) state)
   pub lines : kept.lines ≡ made
   pub stamp : kept.stamp ≡ made
   pub budget : kept.budget ≡ steps
 
--- the whole run was written, and has come to what is stood for
-pub record IsWhole (script : Script) (steps : ℕ) (old now : Option (List ℕ)) (texts : List (List ℕ)) (kept : KeptDomain) : Type 0 where
+-- the whole run was written or is held back, and has come to what is stood for
+pub record IsWhole (script : Script) (steps : ℕ) (old now : Option (List ℕ)) (pending : List ℕ) (texts : List (List ℕ)) (kept : KeptDomain) : Type 0 where
   pub state : Mock
   pub stands : StandsFor script texts kept state.local
-  pub appended : Appends old now (trace script (run script steps).moves)
+  pub passed : PassesOn old now [] (trace script (run script steps).moves) pending
   pub last : (run script steps).last ≡ state
 
 run_moves : (script : Script) (n : ℕ) → (run script n).moves ≡ moves script n (opening script)
@@ -136,9 +136,10 @@ first_is : (bodies : List Block) → unwrap_or (slice_get bodies 0) (Begins 0 Do
 first_is [] = refl
 first_is (main ∷ others) = refl
 
--- before the first move nothing was written
-pub part_opens : (script : Script) (steps : ℕ) (old : Option (List ℕ)) (texts : List (List ℕ)) (kept : KeptDomain) → texts ≡ opening_texts script → Starts script 0 steps true kept → IsPart script steps old old 0 texts kept
-part_opens script steps old texts kept table starts = (
+-- before the first move nothing was written, and nothing is held back
+pub part_opens : (script : Script) (steps : ℕ) (old : Option (List ℕ)) (pending : List ℕ) (texts : List (List ℕ)) (kept : KeptDomain) → pending ≡ [] → texts ≡ opening_texts script → Starts script 0 steps true kept
+    → IsPart script steps old old pending 0 texts kept
+part_opens script steps old pending texts kept none table starts = (
     let all : steps - 0 ≡ steps = omega arith in
     let main : body_of script 0 ≡ first_body script.bodies = first_is script.bodies in
     record {
@@ -147,7 +148,7 @@ part_opens script steps old texts kept table starts = (
           subst (λ (t : List (List ℕ)). StandsFor script t kept (opening script).local) (sym table)
           (subst (λ (body : Block). StandsFor script (opening_texts script) kept (opening_domain 0 (opening_texts script) body)) main starts.stands);
       before = [];
-      appended = Appends-nil old;
+      passed = subst (λ (bs : List ℕ). PassesOn old old [] [] bs) (sym none) (passes_none old []);
       goes = ap (λ n. moves script n (opening script)) (sym all);
       leads = ap (λ n. last_after (opening script) (moves script n (opening script))) (sym all);
       lines = starts.lines;
@@ -161,22 +162,24 @@ grown_has n old new grown within = (let all : length new ≡ length (old ++ grow
 
 -- ## Its end
 
-module _ (script : Script) (steps : ℕ) (old now : Option (List ℕ)) (made : ℕ) (texts : List (List ℕ)) (kept : KeptDomain) (part : IsPart script steps old now made texts kept) where
+module _ (script : Script) (steps : ℕ) (old now : Option (List ℕ)) (pending : List ℕ) (made : ℕ) (texts : List (List ℕ)) (kept : KeptDomain) (part : IsPart script steps old now pending made texts kept) where
   -- nothing is left
-  over : moves script (steps - made) part.state ≡ [] → IsWhole script steps old now texts kept
+  over : moves script (steps - made) part.state ≡ [] → IsWhole script steps old now pending texts kept
   over none = record {
     state = part.state;
     stands = part.stands;
-    appended = subst (λ xs. Appends old now (trace script xs)) (sym (run_moves script steps ∙ (part.goes ∙ (ap (λ xs. part.before ++ xs) none ∙ append-nil part.before)))) part.appended;
+    passed =
+        subst (λ (xs : List Moved). PassesOn old now [] (trace script xs) pending)
+        (sym (run_moves script steps ∙ (part.goes ∙ (ap (λ xs. part.before ++ xs) none ∙ append-nil part.before)))) part.passed;
     last = run_last script steps ∙ (part.leads ∙ ap (λ xs. last_after part.state xs) none);
   }
 
   -- as many moves were made as may be
-  pub whole_spent : steps ≤ made → IsWhole script steps old now texts kept
+  pub whole_spent : steps ≤ made → IsWhole script steps old now pending texts kept
   whole_spent all = (let none : steps - made ≡ 0 = omega arith in over (ap (λ n. moves script n part.state) none ∙ moves_zero script part.state))
 
   -- no move is possible
-  pub whole_still : move script part.state ≡ None → IsWhole script steps old now texts kept
+  pub whole_still : move script part.state ≡ None → IsWhole script steps old now pending texts kept
   whole_still none = over (moves_none script part.state (steps - made) none)
 
   whole_trace : trace script (run script steps).moves ≡ trace script part.before ++ trace script (moves script (steps - made) part.state)
@@ -184,12 +187,12 @@ module _ (script : Script) (steps : ℕ) (old now : Option (List ℕ)) (made : �
 
   -- what was written is a front of the whole trace
   pub part_front : AppendsFront old now (trace script (run script steps).moves)
-  part_front = subst (AppendsFront old now) (sym whole_trace) (front_longer old now _ _ (front_of_whole old now _ part.appended))
+  part_front = subst (AppendsFront old now) (sym whole_trace) (front_longer old now _ _ (front_written old now [] _ pending part.passed))
 
 -- ## One move more
 
-module _ (script : Script) (steps : ℕ) (old mid now : Option (List ℕ)) (made : ℕ) (texts new_texts : List (List ℕ)) (kept new : KeptDomain)
-    (part : IsPart script steps old mid made texts kept) (more : made < steps) (line : Line) (moved : IsMoved script part.state line new_texts new) where
+module _ (script : Script) (steps : ℕ) (old mid now : Option (List ℕ)) (pending : List ℕ) (made : ℕ) (texts new_texts : List (List ℕ)) (kept new : KeptDomain)
+    (part : IsPart script steps old mid pending made texts kept) (more : made < steps) (line : Line) (moved : IsMoved script part.state line new_texts new) where
   left_behind : moves script (steps - made) part.state ≡ moved.moved ∷ moves script (steps - (made + 1)) moved.moved.next
   left_behind = (
       let one : steps - made ≡ suc (steps - (made + 1)) = omega arith in
@@ -202,9 +205,9 @@ module _ (script : Script) (steps : ℕ) (old mid now : Option (List ℕ)) (made
       ∙ (ap (λ (it : Line). trace_text new_texts script.names it) (sym moved.told)
       ∙ ap (λ (t : List (List ℕ)). trace_text t script.names moved.moved.line) (sym moved.stands.mirrors.texts))
 
-  pub part_moves : (names : List TextId) → names ≡ script.names → Appends mid now (trace_text new_texts names line) → new.lines ≡ kept.lines + 1 → new.budget ≡ kept.budget
-      → IsPart script steps old now (made + 1) new_texts new
-  part_moves names same appended lines budget = (
+  pub part_moves : (left : List ℕ) (names : List TextId) → names ≡ script.names → PassesOn mid now pending (trace_text new_texts names line) left → new.lines ≡ kept.lines + 1 → new.budget ≡ kept.budget
+      → IsPart script steps old now left (made + 1) new_texts new
+  part_moves left names same passed lines budget = (
       let rest = moves script (steps - (made + 1)) moved.moved.next in
       let traced : trace script (part.before ++ moved.moved ∷ []) ≡ trace script part.before ++ written_by script moved.moved =
       trace_both script part.before (moved.moved ∷ []) ∙ ap (λ xs. trace script part.before ++ xs) (trace_one script moved.moved) in
@@ -212,7 +215,9 @@ module _ (script : Script) (steps : ℕ) (old mid now : Option (List ℕ)) (made
         state = moved.moved.next;
         stands = moved.stands;
         before = part.before ++ moved.moved ∷ [];
-        appended = subst (Appends old now) (sym traced) (Appends-trans old mid now _ _ part.appended (subst (Appends mid now) (written_is names same) appended));
+        passed =
+            subst (λ (bs : List ℕ). PassesOn old now [] bs left) (sym traced)
+            (passes_more old mid now [] _ pending _ part.passed left (subst (λ (bs : List ℕ). PassesOn mid now pending bs left) (written_is names same) passed));
         goes = part.goes ∙ (ap (λ xs. part.before ++ xs) left_behind ∙ sym (append_assoc part.before (moved.moved ∷ []) rest));
         leads = part.leads ∙ ap (λ xs. last_after part.state xs) left_behind;
         lines = lines ∙ ap (λ n. n + 1) part.lines;
@@ -221,35 +226,35 @@ module _ (script : Script) (steps : ℕ) (old mid now : Option (List ℕ)) (made
       })
 
   -- the same where only a front of its lines was written
-  pub part_front_moves : (names : List TextId) → names ≡ script.names → AppendsFront mid now (trace_text new_texts names line) → AppendsFront old now (trace script (run script steps).moves)
+  pub part_front_moves : (names : List TextId) → names ≡ script.names → AppendsFront mid now (pending ++ trace_text new_texts names line) → AppendsFront old now (trace script (run script steps).moves)
   part_front_moves names same front = (
       let rest = moves script (steps - (made + 1)) moved.moved.next in
       let traced : trace script (run script steps).moves ≡ (trace script part.before ++ written_by script moved.moved) ++ trace script rest =
       ap (trace script) (run_moves script steps ∙ (part.goes ∙ ap (λ xs. part.before ++ xs) left_behind))
       ∙ (trace_both script part.before (moved.moved ∷ rest) ∙ sym (append_assoc (trace script part.before) (written_by script moved.moved) (trace script rest))) in
       subst (AppendsFront old now) (sym traced)
-      (front_longer old now _ _ (front_after old mid now _ _ part.appended (subst (AppendsFront mid now) (written_is names same) front))))
+      (front_longer old now _ _ (front_passed old mid now [] _ pending _ part.passed (subst (λ (bs : List ℕ). AppendsFront mid now (pending ++ bs)) (written_is names same) front))))
 
 -- ## A turn that made no line
 
-module _ (script : Script) (steps : ℕ) (old now : Option (List ℕ)) (made : ℕ) (texts new_texts : List (List ℕ)) (kept new : KeptDomain) (before behind : Local)
-    (part : IsPart script steps old now made texts kept) where
-  stays : new_texts ≡ texts → new ≡ kept → IsWhole script steps old now texts kept → IsWhole script steps old now new_texts new
+module _ (script : Script) (steps : ℕ) (old now : Option (List ℕ)) (pending : List ℕ) (made : ℕ) (texts new_texts : List (List ℕ)) (kept new : KeptDomain) (before behind : Local)
+    (part : IsPart script steps old now pending made texts kept) where
+  stays : new_texts ≡ texts → new ≡ kept → IsWhole script steps old now pending texts kept → IsWhole script steps old now pending new_texts new
   stays same_texts same_kept whole =
-      subst (λ (t : List (List ℕ)). IsWhole script steps old now t new) (sym same_texts) (subst (λ (k : KeptDomain). IsWhole script steps old now texts k) (sym same_kept) whole)
+      subst (λ (t : List (List ℕ)). IsWhole script steps old now pending t new) (sym same_texts) (subst (λ (k : KeptDomain). IsWhole script steps old now pending texts k) (sym same_kept) whole)
 
-  pub whole_idle : Turns Calls Strikes Receives Asks Learns script turn.Idle texts new_texts kept new before behind → IsWhole script steps old now new_texts new
+  pub whole_idle : Turns Calls Strikes Receives Asks Learns script turn.Idle texts new_texts kept new before behind → IsWhole script steps old now pending new_texts new
   whole_idle it =
       stays it.1.0 it.1.1
-      (whole_still script steps old now made texts kept part (idle_move_is script part.state (part.stands.mirrors.halted ∙ it.0.0) (it.3 part.state.local part.stands).1))
+      (whole_still script steps old now pending made texts kept part (idle_move_is script part.state (part.stands.mirrors.halted ∙ it.0.0) (it.3 part.state.local part.stands).1))
 
   -- it may make as many lines as the run has moves
-  pub whole_budget : made < steps → Turns Calls Strikes Receives Asks Learns script turn.Spent texts new_texts kept new before behind → IsWhole script steps old now new_texts new
+  pub whole_budget : made < steps → Turns Calls Strikes Receives Asks Learns script turn.Spent texts new_texts kept new before behind → IsWhole script steps old now pending new_texts new
   whole_budget more it = (let all : made ≡ steps = sym part.lines ∙ (it.1 ∙ part.budget) in absurd (omega arith))
 
-  pub whole_halted : Turns Calls Strikes Receives Asks Learns script turn.Halted texts new_texts kept new before behind → IsWhole script steps old now new_texts new
+  pub whole_halted : Turns Calls Strikes Receives Asks Learns script turn.Halted texts new_texts kept new before behind → IsWhole script steps old now pending new_texts new
   whole_halted it =
-      stays it.1.0 it.1.1 (whole_still script steps old now made texts kept part (halted_move_is script part.state (part.stands.mirrors.halted ∙ it.0)))
+      stays it.1.0 it.1.1 (whole_still script steps old now pending made texts kept part (halted_move_is script part.state (part.stands.mirrors.halted ∙ it.0)))
 
 -- ## Faults
 

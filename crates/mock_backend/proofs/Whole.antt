@@ -1,5 +1,5 @@
 -- The end of a run in code: what was written is its whole text, and it ended as the definitions say.
-use Rattle.std.proofs.Common.{◌≡◌, ℕ, ◌≤◌, List, Option, Result, Ok, Err, refl, ap, sym, ◌∙◌, subst, arith}
+use Rattle.std.proofs.Common.{◌≡◌, ℕ, ◌≤◌, List, ◌++◌, Option, Result, Ok, Err, refl, ap, sym, ◌∙◌, subst, arith}
 use Rattle.std.specs.Prelude.{IfOk, ◌↔◌}
 use Rattle.spec_script.specs.Scripts.{Script}
 use Rattle.spec_machine.specs.declared.Ending.{Ending}
@@ -20,11 +20,11 @@ use Rattle.mock_backend.proofs.Running.{IsWhole, cause_before}
 abbrev pub EndsThere : (texts : List (List ℕ)) → KeptDomain → Ending → Type 0
 EndsThere texts kept e = (s : Script) (m : Mock) → StandsFor s texts kept m.local → e ≡ ending_in s m
 
--- what was written behind its trace
-abbrev pub WritesThere : (texts : List (List ℕ)) → KeptDomain → (mid now : Option (List ℕ)) → Result Ending RunFault → Type 0
-WritesThere texts kept mid now result = (s : Script) (m : Mock) → StandsFor s texts kept m.local → WritesText mid now (last_line (ending_in s m) m) result
+-- what was written at its end: what is held back and the line behind its trace
+abbrev pub WritesThere : (texts : List (List ℕ)) → KeptDomain → (mid now : Option (List ℕ)) → (pending : List ℕ) → Result Ending RunFault → Type 0
+WritesThere texts kept mid now pending result = (s : Script) (m : Mock) → StandsFor s texts kept m.local → WritesText mid now (pending ++ last_line (ending_in s m) m) result
 
-module _ (script : Script) (steps : ℕ) (old mid : Option (List ℕ)) (texts : List (List ℕ)) (kept : KeptDomain) (whole : IsWhole script steps old mid texts kept) where
+module _ (script : Script) (steps : ℕ) (old mid : Option (List ℕ)) (pending : List ℕ) (texts : List (List ℕ)) (kept : KeptDomain) (whole : IsWhole script steps old mid pending texts kept) where
   ends_so : (e : Ending) → EndsThere texts kept e → e ≡ ending_in script (run script steps).last
   ends_so e ends = ends script whole.state whole.stands ∙ ap (ending_in script) (sym whole.last)
 
@@ -40,10 +40,10 @@ module _ (script : Script) (steps : ℕ) (old mid : Option (List ℕ)) (texts : 
   whole_stuck (Ok e) ends = stuck_exactly script (run script steps).last e (ends_so e ends)
   whole_stuck (Err it) ends = tt
 
-  pub whole_written : (now : Option (List ℕ)) (result : Result Ending RunFault) → WritesThere texts kept mid now result → WritesText old now (ran script steps).text result
+  pub whole_written : (now : Option (List ℕ)) (result : Result Ending RunFault) → WritesThere texts kept mid now pending result → WritesText old now (ran script steps).text result
   whole_written now result writes =
-      text_with_line old mid now script steps result whole.appended
-      (subst (λ (m : Mock). WritesText mid now (last_line (ending_in script m) m) result) (sym whole.last) (writes script whole.state whole.stands))
+      text_with_line old mid now pending script steps result whole.passed
+      (subst (λ (m : Mock). WritesText mid now (pending ++ last_line (ending_in script m) m) result) (sym whole.last) (writes script whole.state whole.stands))
 
 -- the count of faults rose behind the trace, if it did
 pub cause_behind : (first mid now : ℕ) (result : Result Ending RunFault) → first ≤ mid → HasRunCause mid now result → HasRunCause first now result

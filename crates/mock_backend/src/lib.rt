@@ -1,4 +1,4 @@
-//! The command `mock` over the engine: a script runs on one domain whose outside is mocked, and its trace is written as it comes.
+//! The command `mock` over the engine: a script runs on one domain whose outside is mocked, and its trace goes out 4,096 bytes at a time.
 //!
 //! [`mock_run`] goes from a source's bytes to a sink's and a status. [`script`] makes the script of an input, or finds why it is refused;
 //! [`run`] turns a [`Domain`](domain_core::Domain) until it stands still, over the objects of [`local`]; [`respond`] joins these. Each says

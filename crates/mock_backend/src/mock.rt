@@ -28,7 +28,7 @@ fn to_status(ending: Ending) -> Status
     }
 }
 
-/// Reads a script from `source`, runs it on one mocked domain for at most `steps` moves, writes its trace to `sink` as it comes,
+/// Reads a script from `source`, runs it on one mocked domain for at most `steps` moves, writes its trace to `sink`,
 /// and returns how it ended. It waits for nobody and always returns.
 ///
 /// At most 262,145 bytes are read, one more than an accepted input has. `Limit` comes where more fibers or contexts would be live than may

@@ -1,8 +1,8 @@
-//! A run of a script on one mocked domain, whose trace is written as it comes, and the line behind it.
+//! A run of a script on one mocked domain, whose trace goes out 4,096 bytes at a time, and the line behind it.
 //!
-//! The loop keeps: what was written is the trace of the moves made so far, and the moves that are left lead from the state that the domain
-//! stands for where the whole run leads. [`run_script`] says what was written, how the run ended, and why.
-ghost use Rattle.std.specs.Prelude.{◌≡◌, ◌<◌, ◌≤◌, ◌↔◌, ℕ, List, true, length, IfOk, IfSome, OnOk};
+//! The loop keeps: what was written, with what is held back behind it, is the trace of the moves made so far, and the moves that are left
+//! lead from the state that the domain stands for where the whole run leads. [`run_script`] says what was written, how the run ended, and why.
+ghost use Rattle.std.specs.Prelude.{◌≡◌, ◌<◌, ◌≤◌, ◌↔◌, ◌++◌, ℕ, List, true, length, IfOk, IfSome, OnOk};
 ghost use Rattle.fiber_step.specs.Settling.{HasTextsOfOutcome};
 ghost use Rattle.spec_machine.specs.Answers.{ran};
 ghost use Rattle.spec_machine.specs.Mock.{Mock};
@@ -19,13 +19,16 @@ ghost use Rattle.mock_backend.specs.Scripts.{IsOfRun};
 
 use crate::fault::RunFault;
 use crate::local::Local;
-use crate::trace::write_line;
-use domain_core::{Domain, Turn};
+use crate::trace::write_told;
+use domain_core::{Domain, Told, Turned};
 use eio_value::{NoMemory, Outcome, Texts, show_raised};
 use script_code::Script;
 use spec_machine::Ending;
 use std::alloc::Global;
-use trace_out::{Sink, write_all};
+use trace_out::{Out, Sink};
+
+/// The number of the one domain of a mocked run.
+pub(crate) const MOCKED: u8 = 0;
 
 /// How a run ends that has come to this domain.
 fn ending_of(domain: &Domain) -> Ending
@@ -71,21 +74,23 @@ fn last_line(
     Ok(())
 }
 
-/// Writes the line behind the trace of a run that has come to this domain, and returns how it ended.
+/// Writes the line behind the trace of a run that has come to this domain, with all that is held back, and returns how the run ended.
 fn end_run<K: Sink>(
     domain: &Domain,
     texts: &Texts,
+    out: &mut Out,
     sink: &mut K,
     buffer: &mut Vec<u8>,
 ) -> Result<Ending, RunFault>
     requires come { IsOfRun texts.now domain.now }
     ensures ending { IfOk result (λ ending. (script : Read) (m : Mock) → StandsFor script texts.now domain.now m.local → ending ≡ ending_in script m) }
-    ensures text { (script : Read) (m : Mock) → StandsFor script texts.now domain.now m.local → WritesText (K.held sink.old) (K.held sink.new) (model.last_line (ending_in script m) m) result }
+    ensures text { (script : Read) (m : Mock) → StandsFor script texts.now domain.now m.local → WritesText (K.held sink.old) (K.held sink.new) (out.old ++ model.last_line (ending_in script m) m) result }
     ensures cause { HasRunCause (K.faults sink.old) (K.faults sink.new) result }
 {
     let ending = ending_of(domain);
     last_line(texts, ending, domain.body_end(), buffer)?;
-    write_all(sink, buffer)?;
+    out.put(sink, buffer)?;
+    out.flush(sink)?;
     Ok(ending)
 }
 
@@ -94,12 +99,12 @@ fn end_run<K: Sink>(
 /// # Errors
 /// `WriteFault` where the sink failed, `NoMemory` where memory runs out; a front of the text was written.
 fn run_domain<K: Sink>(
+    alloc: Global,
     script: &Script,
     domain: &mut Domain,
     texts: &mut Texts,
     objects: &mut Local,
     sink: &mut K,
-    buffer: &mut Vec<u8>,
     steps: u32,
 ) -> Result<Ending, RunFault>
     requires most { steps ≤ 1000000 }
@@ -114,16 +119,22 @@ fn run_domain<K: Sink>(
     ensures deadlock { IfOk result (λ ending. (ending ≡ Ending.Deadlock) ↔ IsStuck (run script.now steps).last.local) }
     ensures cause { HasRunCause (K.faults sink.old) (K.faults sink.new) result }
 {
+    let mut out = Out::new(alloc)?;
+    let mut buffer = Vec::new(alloc);
+    let mut told = Told::nothing();
     // The label is the loop's name in its proof.
     'running: for made in 0..steps {
-        match domain.turn(script, texts, objects)? {
-            Turn::Moved(line) => write_line(sink, texts, script.names(), &line, buffer)?,
-            Turn::Idle | Turn::Spent | Turn::Halted => {
-                return end_run(domain, texts, sink, buffer);
+        match domain.turn_told(script, texts, objects, &mut told)? {
+            Turned::Moved(stamp) => {
+                let names = script.names();
+                write_told(&mut out, sink, texts, names, stamp, &told, &mut buffer)?
+            }
+            Turned::Idle | Turned::Spent | Turned::Halted => {
+                return end_run(domain, texts, &mut out, sink, &mut buffer);
             }
         }
     }
-    end_run(domain, texts, sink, buffer)
+    end_run(domain, texts, &mut out, sink, &mut buffer)
 }
 
 /// Runs a script for at most `steps` moves, writes its trace and the line behind it, and returns how it ended.
@@ -149,16 +160,15 @@ pub(crate) fn run_script<K: Sink>(
     ensures cause { HasRunCause (K.faults sink.old) (K.faults sink.new) result }
 {
     let mut texts = script.texts_of(alloc)?;
-    let mut domain = Domain::start(alloc, script, 0, steps, true)?;
+    let mut domain = Domain::start(alloc, script, MOCKED, steps, true)?;
     let mut objects = Local::make(alloc, texts.len());
-    let mut buffer = Vec::new(alloc);
     run_domain(
+        alloc,
         script,
         &mut domain,
         &mut texts,
         &mut objects,
         sink,
-        &mut buffer,
         steps,
     )
 }

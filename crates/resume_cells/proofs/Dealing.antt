@@ -10,7 +10,7 @@ use Rattle.atomic_table.specs.Table.{opening, Splits, Joins}
 use Rattle.resume_cells.specs.declared.view.SeatLog.{SeatLog}
 use Rattle.resume_cells.specs.declared.view.View.{View}
 use Rattle.resume_cells.specs.declared.rule.Plan.{Plan}
-use Rattle.resume_cells.specs.Marks.{marks_by, AllWere}
+use Rattle.resume_cells.specs.Marks.{marks_by, word_bound, AllWere}
 use Rattle.resume_cells.specs.Rule.{IsFree, Fits, Leads, Keeps}
 use Rattle.resume_cells.specs.Views.{first_view, dealing, dealt_to, taking_in, spent}
 use Rattle.resume_cells.proofs.Cases.{at_below}
@@ -42,6 +42,7 @@ opens plan some_seat = (
     who = λ _. 0;
     legal = λ _. tt;
     shows = λ cell _. zeros plan.cells cell;
+    bounded = λ cell _. subst (λ (n : ℕ). n < word_bound) (sym (zeros plan.cells cell)) (omega arith);
     owned = tt;
     fits = λ by w at _. let t = at_one (first_view plan.each) w by at in
         subst (λ (z : ℕ × View). Fits plan.each [] (λ _. 0) z.0 z.1) (λ i. (sym t.0 i, t.1 i)) (record { is = refl; owns = refl; made = refl; stood = tt });
@@ -75,6 +76,7 @@ deals plan id v live first more s kept at =
         who = who';
         legal = d.legal;
         shows = d.shows;
+        bounded = d.bounded;
         owned = d.owned;
         fits = λ by u at' alive. ⊎_elim
             (λ old. let o = back views at by u old in let f = d.fits by o.0 o.1 (o.2 ∙ alive) in
@@ -128,6 +130,7 @@ takes_in plan id v other w live first w_live number s kept at ne at_w =
         who = d.who;
         legal = d.legal;
         shows = d.shows;
+        bounded = d.bounded;
         owned = d.owned;
         fits = λ by u at' alive. let o = back views at by u at' alive in let f = d.fits by o.0 o.1 (o.2 ∙ alive) in
             record { is = ap d.who (sym o.3) ∙ f.is; owns = sym o.4 ∙ f.owns; made = ap (λ (n : ℕ). marks_by n d.log) (sym o.3) ∙ f.made ∙ ap (λ (t : SeatLog). t.marks) o.5; stood = subst (λ (t : SeatLog). AllWere d.log t.finds) o.5 f.stood };

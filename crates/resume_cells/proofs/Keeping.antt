@@ -10,7 +10,7 @@ use Rattle.resume_cells.specs.declared.view.Deed.TheVariants.{Wake}
 use Rattle.resume_cells.specs.declared.view.Mark.{Mark}
 use Rattle.resume_cells.specs.declared.view.SeatLog.{SeatLog}
 use Rattle.resume_cells.specs.declared.view.View.{View}
-use Rattle.resume_cells.specs.Marks.{word, word_of, WasWord, Follows, of_cell}
+use Rattle.resume_cells.specs.Marks.{word, word_bound, word_of, WasWord, Follows, of_cell}
 use Rattle.resume_cells.specs.Rule.{IsFree, Fits, Leads, KeptWords}
 use Rattle.resume_cells.specs.Views.{marked, found}
 use Rattle.resume_cells.proofs.Marks.{here, away, mine, not_mine, all_longer, history_longer, is_word}
@@ -24,9 +24,9 @@ free_set n id views v w at live number free by u at' is = ⊎_elim
 
 -- a new entry of the seat, whose word the cell then shows
 pub adds : (each seats : ℕ) (words : List ℕ) (views : List View) (id cell : ℕ) (v : View) (m : Mark) → (k : KeptWords each seats words views) → get_elem? views id ≡ some v → v.live ≡ true
-    → cell < length words → m.cell ≡ cell → Follows m (of_cell cell k.log) → (m.deed ≢ Wake → cell / v.each ≡ v.number)
+    → cell < length words → m.cell ≡ cell → Follows m (of_cell cell k.log) → word m < word_bound → (m.deed ≢ Wake → cell / v.each ≡ v.number)
     → KeptWords each seats (set words cell (word m)) (set views id (marked v m))
-adds each seats words views id cell v m k at live lt is f own = record {
+adds each seats words views id cell v m k at live lt is f small own = record {
   log = (v.number, m) ∷ k.log;
   who = k.who;
   legal = history_longer (v.number, m) k.log k.legal (subst (λ (c : ℕ). Follows m (of_cell c k.log)) (sym is) f);
@@ -35,6 +35,9 @@ adds each seats words views id cell v m k at live lt is f own = record {
       (get_or-set_same words cell (word m) 0 lt ∙ sym (ap word_of (here (v.number, m) k.log cell is))))
       (λ (other : c ≢ cell). get_or-set_other words cell c (word m) 0 other ∙ k.shows c (subst (λ (n : ℕ). c < n) (length-set words cell (word m)) lt')
       ∙ sym (ap word_of (away (v.number, m) k.log c (λ e. other (sym e ∙ is)))));
+  bounded = λ c lt'. dite (ℕ_discrete c cell)
+      (λ (same : c ≡ cell). subst (λ (n : ℕ). n < word_bound) (sym (ap (λ (d : ℕ). slice_index (set words cell (word m)) d) same ∙ get_or-set_same words cell (word m) 0 lt)) small)
+      (λ (other : c ≢ cell). subst (λ (n : ℕ). n < word_bound) (sym (get_or-set_other words cell c (word m) 0 other)) (k.bounded c (subst (λ (n : ℕ). c < n) (length-set words cell (word m)) lt')));
   owned = ((λ ne. ap (λ (c : ℕ). c / each) is ∙ subst (λ (n : ℕ). cell / n ≡ v.number) its.owns (own ne)), k.owned);
   fits = λ by w at' alive. ⊎_elim
       (λ (t : (by ≡ id) × (marked v m ≡ w)). subst (λ (z : ℕ × View). Fits each ((v.number, m) ∷ k.log) k.who z.0 z.1) (λ i. (sym t.0 i, t.1 i))
@@ -73,6 +76,7 @@ finds each seats words views id cell v k at live lt = record {
   who = k.who;
   legal = k.legal;
   shows = k.shows;
+  bounded = k.bounded;
   owned = k.owned;
   fits = λ by w at' alive. ⊎_elim
       (λ (t : (by ≡ id) × (found v cell (slice_index words cell) ≡ w)). subst (λ (z : ℕ × View). Fits each k.log k.who z.0 z.1) (λ i. (sym t.0 i, t.1 i))

@@ -1,5 +1,5 @@
 -- Facts on histories of a cell, and on one more entry of the log.
-use Rattle.std.proofs.Common.{◌≡◌, ◌≢◌, ℕ, ◌+◌, ◌*◌, ◌<◌, ◌≤◌, ◌⊎◌, List, [], ◌∷◌, refl, sym, subst, inl, inr, ⊎_elim, arith}
+use Rattle.std.proofs.Common.{◌≡◌, ◌≢◌, ℕ, ◌+◌, ◌*◌, ◌^◌, ◌<◌, ◌≤◌, ◌⊎◌, List, [], ◌∷◌, refl, sym, subst, inl, inr, ⊎_elim, arith}
 use Rattle.std.specs.Prelude.{if◌then◌else◌}
 use mathlib.Core.Logic.{dite}
 use native.Mathlib.Decide.{ℕ_discrete}
@@ -7,7 +7,7 @@ use Rattle.resume_cells.specs.declared.view.Deed.{Deed}
 use Rattle.resume_cells.specs.declared.view.Deed.TheVariants.{Arm, Wake, Cancel}
 use Rattle.resume_cells.specs.declared.view.Mark.{Mark}
 use Rattle.resume_cells.specs.declared.view.Found.{Found}
-use Rattle.resume_cells.specs.Marks.{code_of, Entry, word, word_of, WasWord, Follows, IsHistory, of_cell, marks_by, AllWere}
+use Rattle.resume_cells.specs.Marks.{code_of, Entry, word, word_bound, word_of, WasWord, Follows, IsHistory, of_cell, marks_by, AllWere}
 use Rattle.resume_cells.specs.Views.{decision_of}
 use Rattle.resume_cells.proofs.Cases.{eqb_cases, deed_cases}
 
@@ -70,3 +70,7 @@ module _ (e : Entry) (log : List Entry) where
   history_longer legal f cell = dite (ℕ_discrete e.1.cell cell)
       (λ same. subst IsHistory (sym (here cell same)) (subst (λ (c : ℕ). Follows e.1 (of_cell c log)) same f, legal cell))
       (λ other. subst IsHistory (sym (away cell other)) (legal cell))
+
+-- the word of a mark whose stamp is early
+pub word_is_bounded : (m : Mark) → m.stamp < 2 ^ 60 → word m < word_bound
+word_is_bounded m early = (let code = code_small m.deed in omega (arith, code))

@@ -1,5 +1,5 @@
 -- The marks of the cells, as the rule over threads has them: in one log, with the number of the seat that made each. All lists have the newest first.
-use Rattle.std.specs.Prelude.{◌≡◌, ◌≢◌, ℕ, ◌+◌, ◌*◌, ◌/◌, ◌<◌, ◌⊎◌, List, [], ◌∷◌, ◌==◌, if◌then◌else◌}
+use Rattle.std.specs.Prelude.{◌≡◌, ◌≢◌, ℕ, ◌+◌, ◌*◌, ◌/◌, ◌^◌, ◌<◌, ◌⊎◌, List, [], ◌∷◌, ◌==◌, if◌then◌else◌}
 use Rattle.resume_cells.specs.declared.view.Deed.{Deed}
 use Rattle.resume_cells.specs.declared.view.Deed.TheVariants.{Arm, Wake, Cancel}
 use Rattle.resume_cells.specs.declared.view.Mark.{Mark}
@@ -14,6 +14,10 @@ code_of Cancel = 3
 -- the word that a mark leaves
 abbrev pub word : Mark → ℕ
 word m = 4 * m.stamp + code_of m.deed
+
+-- no stamp of a mark reaches 2^60, so that no word reaches this
+abbrev pub word_bound : ℕ
+word_bound = 2 ^ 62
 
 -- a cell's word is that of its newest mark, and 0 before the first
 abbrev pub word_of : List Mark → ℕ

@@ -6,7 +6,7 @@ use Rattle.atomic_table.specs.Table.{State}
 use Rattle.resume_cells.specs.declared.view.SeatLog.{SeatLog}
 use Rattle.resume_cells.specs.declared.view.View.{View}
 use Rattle.resume_cells.specs.declared.rule.Plan.{Plan}
-use Rattle.resume_cells.specs.Marks.{Entry, word_of, IsHistory, of_cell, marks_by, AreByOwners, AllWere}
+use Rattle.resume_cells.specs.Marks.{Entry, word_bound, word_of, IsHistory, of_cell, marks_by, AreByOwners, AllWere}
 
 -- no seat has this number
 abbrev pub IsFree : ℕ → List View → Type 0
@@ -31,6 +31,7 @@ pub record KeptWords (each seats : ℕ) (words : List ℕ) (views : List View) :
   pub who : ℕ → ℕ
   pub legal : (cell : ℕ) → IsHistory (of_cell cell log)
   pub shows : (cell : ℕ) → cell < length words → slice_index words cell ≡ word_of (of_cell cell log)
+  pub bounded : (cell : ℕ) → cell < length words → slice_index words cell < word_bound
   pub owned : AreByOwners each log
   pub fits : (by : ℕ) (v : View) → get_elem? views by ≡ some v → v.live ≡ true → Fits each log who by v
   pub leads : (by : ℕ) (v : View) → get_elem? views by ≡ some v → v.live ≡ true → v.number ≡ 0 → Leads seats log views v

@@ -54,7 +54,7 @@ impl Model for Cells {
 pub enum Decided {
     /// The wait is decided now, by this call.
     Won,
-    /// The cell's word was this one, and not that of this wait undecided.
+    /// The cell's word was this one, below 2^62, and not that of this wait undecided.
     ///
     /// Where its stamp, a fourth of it, isn't below the wait's, the wait was decided before, with a stamp that isn't above the word's.
     Lost(u64),
@@ -125,6 +125,7 @@ impl Cells {
         ensures won { IfWon result (seat.new ≡ with_mark seat.old (decision_of Wake who.cell who.armed stamp)) }
         ensures fresh { IfWon result (knows seat.old.told who.cell who.armed ≡ false) }
         ensures lost { IfLost result (λ word. (seat.new ≡ with_found seat.old who.cell word) × (word ≢ waiting who.armed)) }
+        ensures bounded { IfLost result (λ word. word < 2 ^ 62) }
     {
         let waiting = 4 * who.armed + WAITING;
         let shared = &self.table.shared;
@@ -149,6 +150,7 @@ impl Cells {
         ensures won { IfWon result (seat.new ≡ with_mark seat.old (decision_of Cancel who.cell who.armed stamp)) }
         ensures fresh { IfWon result (knows seat.old.told who.cell who.armed ≡ false) }
         ensures lost { IfLost result (λ word. (seat.new ≡ with_found seat.old who.cell word) × (word ≢ waiting who.armed)) }
+        ensures bounded { IfLost result (λ word. word < 2 ^ 62) }
         ensures woken { IfLost result (λ word. SaysWoken who.armed word) }
     {
         let undecided = 4 * who.armed + WAITING;

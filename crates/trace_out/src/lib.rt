@@ -7,9 +7,10 @@
 //!
 //! The definitions that the clauses cite stand in specs/: `Causes` (faults, and fronts that were
 //! written), `Devices` (the sink in memory as a record, the numbers of calls), `Input` (what was read of an input),
-//! `Outcome` (what a command reads and writes by the status that it answers).
+//! `Outcome` (what a command reads and writes by the status that it answers), `Passing` (what a buffer has passed on).
 #![tactic(auto)]
 
+mod buffer;
 mod gate;
 mod input;
 mod mem_sink;
@@ -19,6 +20,7 @@ mod source;
 mod std_io;
 mod writing;
 
+pub use buffer::Out;
 pub use gate::{Gate, OpenGate};
 pub use input::{InputError, read_input};
 pub use mem_sink::MemSink;

@@ -1,18 +1,20 @@
 use Rattle.std.proofs.Common.{rules, ◌≡◌, ◌<◌, ◌+◌, Some, true, ◌∙◌, sym, ap, subst, length, arith, nat_lt}
 use Rattle.std.specs.Prelude.{slice_get}
+use mir.Val.{bool_byte as from_bool}
 use Rattle.std.proofs.lemmas.List.Sorted.{IsPartitionPoint-from_clause}
 use Rattle.slab.specs.Slab.{get}
 use Rattle.spec_parts.specs.Contexts.{is_live}
 use Rattle.cancel_tree.specs.declared.kept.ContextKey.{ContextKey}
-use Rattle.cancel_tree.specs.KeptContext.{contexts_in}
+use Rattle.cancel_tree.specs.KeptContext.{contexts_in, reason_count}
 use Rattle.cancel_tree.specs.Places.{place_at}
 use Rattle.cancel_tree.specs.Endings.{HasNoLiveChild, without}
 use Rattle.cancel_tree.proofs.Finding.{Parts, first_are_lower, place_found, at_index, slice_get-at, slice_get-within, rest_of, FoundAt}
 use Rattle.cancel_tree.proofs.Jumping.{jumps_left}
-use Rattle.cancel_tree.proofs.Changes.{ended_tree, ended_list, found_if}
+use Rattle.cancel_tree.proofs.Changes.{ended_tree, ended_list, ended_count, found_if}
+use Rattle.cancel_tree.proofs.Reasons.{counted_as}
 use Rattle.cancel_tree.proofs.Trees.{live_is_placed, is_there, has_value, at_own}
 use Rattle.cancel_tree.proofs.tree.Tree.end.Goals as goal
-use Rattle.cancel_tree.proofs.tree.Tree.end.Goals.{After-partition_point-index, After-unwrap-place}
+use Rattle.cancel_tree.proofs.tree.Tree.end.Goals.{After-partition_point-index, After-unwrap-place, After-from}
 
 -- the index parts the numbers at c
 parts : (c : After-partition_point-index) → Parts c.args.c c.self.inside.places.items c.partition_point-index.result
@@ -43,16 +45,30 @@ removed c found =
     let here : slice_get c.self.inside.places.items c.partition_point-index.result ≡ Some found.place = found.there in
     cc
 
-pub remove-requires-2 : goal.remove-requires-2
-remove-requires-2 c =
-    let found = placed (goal.at.remove-requires-2 c).After-partition_point-index in
+pub remove-gone-requires : goal.remove-gone-requires
+remove-gone-requires c =
+    let found = placed (goal.at.remove-gone-requires c).After-partition_point-index in
     let there = is_there c.self.inside.made c.self.inside.kept c.self.inside.places.items c.self.invariant.tree found.place (at_own c.self.inside.places.items c.args.c found.place found.at) in
-    has_value _ there.0 (ap (λ (place : ContextKey). get c.self.inside.kept place.key) (sym (removed (goal.at.remove-requires-2 c).After-unwrap-place found)) ∙ there.1)
+    has_value _ there.0 (ap (λ (place : ContextKey). get c.self.inside.kept place.key) (sym (removed (goal.at.remove-gone-requires c).After-unwrap-place found)) ∙ there.1)
 
 -- where the removed place stood
 at_removed : (c : After-unwrap-place) → (found : FoundAt c.self.inside.places.items c.args.c c.partition_point-index.result)
     → (place_at c.self.inside.places.items c.args.c ≡ Some c.unwrap-place.result) × (slice_get c.self.inside.places.items c.partition_point-index.result ≡ Some c.unwrap-place.result)
 at_removed c found = (found.at ∙ ap Some (removed c found), found.there ∙ ap Some (removed c found))
+
+-- with the context that ends goes its reason, if it has one
+counts : (c : After-from) → (place_at c.self.inside.places.items c.args.c ≡ Some c.unwrap-place.result) × (slice_get c.self.inside.places.items c.partition_point-index.result ≡ Some c.unwrap-place.result)
+    → reason_count (contexts_in c.self.inside.made c.remove-gone.new.self (rest_of c.self.inside.places.items c.partition_point-index.result)) + c.from.result ≡ c.self.inside.reasons
+counts c at =
+    ap (λ n. reason_count (contexts_in c.self.inside.made c.remove-gone.new.self (rest_of c.self.inside.places.items c.partition_point-index.result)) + n) (c.from.ensures ∙ ap from_bool c.is_some.ensures ∙ counted_as c.remove-gone.result.reason)
+    ∙ ended_count c.self.inside.made c.self.inside.kept c.self.inside.places.items c.self.invariant.tree c.args.c c.partition_point-index.result c.unwrap-place.result c.remove-gone.new.self at.0 at.1
+    c.remove-gone.ensures.updates (subst (λ contexts. HasNoLiveChild contexts c.args.c) (sym c.self.view_is) c.requires.childless) c.remove-gone.result c.remove-gone.ensures.value
+    ∙ c.self.invariant.counted
+
+pub overflow_sub-self : goal.overflow_sub-self
+overflow_sub-self c =
+    let it = goal.at.overflow_sub-self c in
+    let counts = counts it.After-from (at_removed it.After-unwrap-place (placed it.After-partition_point-index)) in omega (arith, counts)
 
 pub invariant_of-self : goal.invariant_of-self
 invariant_of-self c =
@@ -68,12 +84,13 @@ invariant_of-self c =
     record {
       tree =
           rw items
-          (ended_tree c.self.inside.made c.self.inside.kept c.self.inside.places.items c.self.invariant.tree c.args.c c.partition_point-index.result c.unwrap-place.result c.remove-2.new.self at.0 at.1
-          c.remove-2.ensures.updates childless count c.remove-2.ensures.len c.remove-2.ensures.capacity);
+          (ended_tree c.self.inside.made c.self.inside.kept c.self.inside.places.items c.self.invariant.tree c.args.c c.partition_point-index.result c.unwrap-place.result c.remove-gone.new.self at.0 at.1
+          c.remove-gone.ensures.updates childless count c.remove-gone.ensures.len c.remove-gone.ensures.capacity);
       jumps =
           rw items
-          (jumps_left c.self.inside.made c.self.inside.kept c.self.inside.places.items c.self.invariant.tree c.self.invariant.jumps c.args.c c.partition_point-index.result c.unwrap-place.result c.remove-2.new.self at.0 at.1
-          c.remove-2.ensures.updates childless);
+          (jumps_left c.self.inside.made c.self.inside.kept c.self.inside.places.items c.self.invariant.tree c.self.invariant.jumps c.args.c c.partition_point-index.result c.unwrap-place.result c.remove-gone.new.self at.0 at.1
+          c.remove-gone.ensures.updates childless);
+      counted = rw items (let counts = counts (goal.at.invariant_of-self c).After-from at in omega (arith, counts));
       room = rw c.remove.ensures.capacity c.self.invariant.room;
     }
 
@@ -81,7 +98,7 @@ pub returns : goal.returns
 returns c =
     let at = at_removed (goal.at.returns c).After-unwrap-place (placed (goal.at.returns c).After-partition_point-index) in
     let items = rw c.unwrap-place.ensures at c.remove.ensures.items in
-    ap (contexts_in c.self.inside.made c.remove-2.new.self) items
-    ∙ ended_list c.self.inside.made c.self.inside.kept c.self.inside.places.items c.self.invariant.tree c.args.c c.partition_point-index.result c.unwrap-place.result c.remove-2.new.self at.0 at.1
-    c.remove-2.ensures.updates (subst (λ contexts. HasNoLiveChild contexts c.args.c) (sym c.self.view_is) c.requires.childless)
+    ap (contexts_in c.self.inside.made c.remove-gone.new.self) items
+    ∙ ended_list c.self.inside.made c.self.inside.kept c.self.inside.places.items c.self.invariant.tree c.args.c c.partition_point-index.result c.unwrap-place.result c.remove-gone.new.self at.0 at.1
+    c.remove-gone.ensures.updates (subst (λ contexts. HasNoLiveChild contexts c.args.c) (sym c.self.view_is) c.requires.childless)
     ∙ ap (without c.args.c) c.self.view_is

@@ -6,7 +6,7 @@ use Rattle.cancel_tree.specs.KeptContext.{contexts_in}
 use Rattle.cancel_tree.specs.Places.{place_at}
 use Rattle.cancel_tree.specs.Jumps.{JumpsUnder}
 use Rattle.cancel_tree.proofs.Jumping.{jumps_made, if_some}
-use Rattle.cancel_tree.proofs.Changes.{made_tree, made_list, not_full, make_number, make_contexts, length-contexts_in, parent_is_placed}
+use Rattle.cancel_tree.proofs.Changes.{made_tree, made_list, made_count, not_full, make_number, make_contexts, length-contexts_in, parent_is_placed}
 use Rattle.cancel_tree.proofs.tree.Tree.make.Goals as goal
 use Rattle.cancel_tree.proofs.tree.Tree.make.Goals.{in-Some, in-None, Joined-parent, Else-len-ge-MOST_CONTEXTS}
 
@@ -40,6 +40,11 @@ invariant_of-self c =
           (jumps_made c.self.inside.made c.self.inside.kept c.self.inside.places.items c.self.invariant.tree c.self.invariant.jumps c.insert_reserved-key.result c.match-parent.above c.args.protected c.jump_of-jump.result c.insert_reserved-key.new.self
           c.insert_reserved-key.ensures.was_vacant c.insert_reserved-key.ensures.updates placed c.insert_reserved-key.ensures.len c.insert_reserved-key.ensures.capacity
           (if_some (JumpsUnder c.self.inside.kept c.match-parent.above c.args.protected) c.jump_of-jump.result c.jump_of-jump.ensures));
+      counted =
+          rw c.push_back_reserved.ensures.items
+          (made_count c.self.inside.made c.self.inside.kept c.self.inside.places.items c.self.invariant.tree c.insert_reserved-key.result c.match-parent.above c.args.protected c.jump_of-jump.result c.insert_reserved-key.new.self
+          c.insert_reserved-key.ensures.was_vacant c.insert_reserved-key.ensures.updates placed
+          ∙ c.self.invariant.counted);
       room = rw c.push_back_reserved.ensures.capacity c.self.invariant.room;
     }
 

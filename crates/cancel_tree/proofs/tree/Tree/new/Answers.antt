@@ -19,6 +19,7 @@ invariant_of-result c =
         room = big;
       };
       jumps = record { jumps = λ n place context e found jump f. cc };
+      counted = refl;
       room = room;
     }
 

@@ -1,12 +1,18 @@
 use Rattle.std.proofs.Common.{Some, None, ◌∙◌, sym, ap, subst, List}
 use Rattle.spec_parts.specs.Contexts.{Context, off}
 use Rattle.cancel_tree.specs.KeptContext.{contexts_in}
+use Rattle.cancel_tree.proofs.Reasons.{nobody_off}
 use Rattle.cancel_tree.proofs.Trees.{OffGoesOn, off_begins, off_ends, off_goes_on, lower_next, is_there, has_value}
 use Rattle.cancel_tree.proofs.tree.Tree.off.Goals as goal
 use Rattle.cancel_tree.proofs.tree.Tree.off.Goals.{After-place_of-next, In-Some}
 
 abbrev all_made : After-place_of-next → List Context
 all_made c = contexts_in c.self.inside.made c.self.inside.kept c.self.inside.places.items
+
+pub returns-then-self-eq0 : goal.returns-then-self-eq0
+returns-then-self-eq0 c =
+    sym (ap (λ contexts. off contexts c.args.c) (sym c.self.view_is)
+    ∙ nobody_off (contexts_in c.self.inside.made c.self.inside.kept c.self.inside.places.items) c.args.c (c.self.invariant.counted ∙ c.if-self-eq0.true))
 
 pub way-init : goal.way-init
 way-init c =

@@ -1,6 +1,7 @@
 use Rattle.std.proofs.Common.{◌∙◌, ap, sym, subst}
 use Rattle.std.specs.Prelude.{IsSome}
-use Rattle.std.proofs.lemmas.Result.{IfOk-weaker}
+use Rattle.std.proofs.lemmas.Result.{on_ok_weaker}
+use Rattle.eio_value.specs.declared.raised.Outcome.TheVariants as outcome
 use Rattle.script_forms.specs.Flat.{nodes_of}
 use Rattle.domain_core.specs.Keeping.{KeptDomain, kept_at}
 use Rattle.domain_core.specs.Keyed.{standing_of}
@@ -24,7 +25,7 @@ came_to-requires-clause-live c =
 pub settle-requires-clause-came : goal.settle-requires-clause-came
 settle-requires-clause-came c =
     head_texts c.args.script.now c.requires.runnable c.args.texts.now c.args.self.now c.args.fiber c.requires.owes c.requires.going c.requires.stands.0 c.requires.stands.1
-    c.in_ok-came.came _ c.in_ok-came.ensures.came
+    c.in-Ok.came _ c.in-Ok.ensures.came
 
 pub came_to-requires-clause-ready : goal.came_to-requires-clause-ready
 came_to-requires-clause-ready c = (
@@ -38,14 +39,35 @@ returns-in-Some-clause-calls c l stands = (
     comes_again c.args.script.now c.requires.runnable c.args.texts.now c.args.self.now c.args.fiber c.requires.owes c.requires.going l stands _ there
     c.made_again.result c.in-Some.again (ap (standing_of c.at.ensures.0) c.in-Some.ensures.some) (c.made_again.ensures.call (nodes_of c.args.script.now)))
 
-pub returns-clause-calls : goal.returns-clause-calls
-returns-clause-calls c = (
-    let same = c.self-2.view_is ∙ c.in_ok-came.ensures.kept in
-    IfOk-weaker c.settle.result _ _
-    (λ call settled l stands.
-    subst (λ (kept : KeptDomain). ComesTo c.args.script.now c.settle.new.texts l c.args.fiber call kept)
+pub returns-in-Ok-clause-calls : goal.returns-in-Ok-clause-calls
+returns-in-Ok-clause-calls c = (
+    let same = c.self-2.view_is ∙ c.in-Ok.ensures.kept in
+    on_ok_weaker c.settle.result
+    (λ settled l stands.
+    subst (λ (kept : KeptDomain). ComesTo c.args.script.now c.settle.new.texts l c.args.fiber c.settle.new.ask kept)
     (sym (ap (λ (kept : KeptDomain). record kept { fibers = c.settle.new.self; serial = c.settle.new.serials }) same))
     (comes_settled c.args.script.now c.requires.runnable c.args.texts.now c.args.self.now c.args.fiber c.requires.owes c.requires.going l stands
-    c.in_ok-came.came c.came_to.new.self c.in_ok-came.ensures.came c.settle.new.texts c.settle.new.serials call c.settle.new.self
-    (subst (λ (kept : KeptDomain). Settles (nodes_of c.args.script.now) c.in_ok-came.came c.args.fiber kept.fibers c.args.texts.now kept.serial call c.settle.new.self c.settle.new.texts c.settle.new.serials) same settled)))
+    c.in-Ok.came c.came_to.new.self c.in-Ok.ensures.came c.settle.new.texts c.settle.new.serials c.settle.new.ask c.settle.new.self
+    (subst (λ (kept : KeptDomain). Settles (nodes_of c.args.script.now) c.in-Ok.came c.args.fiber kept.fibers c.args.texts.now kept.serial c.settle.new.ask c.settle.new.self c.settle.new.texts c.settle.new.serials) same settled)))
     c.settle.ensures)
+
+pub value_for-requires-clause-live : goal.value_for-requires-clause-live
+value_for-requires-clause-live c =
+    head_live c.args.script.now c.requires.runnable c.args.texts.now c.args.self.now c.args.fiber c.requires.owes c.requires.going c.requires.stands.0 c.requires.stands.1
+
+pub value_for-requires-clause-ready : goal.value_for-requires-clause-ready
+value_for-requires-clause-ready c = (
+    let there = ap (λ (kept : KeptDomain). kept_at kept.fibers c.args.fiber) (sym c.self.view_is) ∙ c.at.ensures.1 in
+    head_new c.args.script.now c.requires.runnable c.args.texts.now c.args.self.now c.args.fiber c.requires.owes c.requires.going c.requires.stands.0 c.requires.stands.1
+    _ there (not_again c.at.ensures.0 c.at.result.now.standing c.in_default.ensures.none))
+
+pub returns-in-Some-value_for-clause-calls : goal.returns-in-Some-value_for-clause-calls
+returns-in-Some-value_for-clause-calls c = (
+    on_ok_weaker c.settle_value.result
+    (λ settled l stands.
+    subst (λ (kept : KeptDomain). ComesTo c.args.script.now c.settle_value.new.texts l c.args.fiber c.settle_value.new.ask kept)
+    (sym (ap (λ (kept : KeptDomain). record kept { fibers = c.settle_value.new.self; serial = c.settle_value.new.serials }) c.self.view_is))
+    (comes_settled c.args.script.now c.requires.runnable c.args.texts.now c.args.self.now c.args.fiber c.requires.owes c.requires.going l stands
+    (outcome.Ok c.in-Some-value_for.value) c.args.self.now c.in-Some-value_for.ensures c.settle_value.new.texts c.settle_value.new.serials c.settle_value.new.ask c.settle_value.new.self
+    (subst (λ (kept : KeptDomain). Settles (nodes_of c.args.script.now) (outcome.Ok c.in-Some-value_for.value) c.args.fiber kept.fibers c.args.texts.now kept.serial c.settle_value.new.ask c.settle_value.new.self c.settle_value.new.texts c.settle_value.new.serials) c.self.view_is settled)))
+    c.settle_value.ensures)

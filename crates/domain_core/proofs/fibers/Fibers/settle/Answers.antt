@@ -1,5 +1,5 @@
 use Rattle.std.proofs.Common.{◌≡◌, ◌∙◌, ap, sym, subst, refl, List, Option, Some}
-use Rattle.std.specs.Prelude.{slice_get, IsSome, Result, Ok, Err, OnOk, IfOk}
+use Rattle.std.specs.Prelude.{slice_get, IsSome, Result, Ok, Err, OnOk}
 use Rattle.std.specs.Option.{option_map}
 use Rattle.slab.specs.Slab.{with_value}
 use Rattle.script_forms.specs.Flat.{nodes_of}
@@ -36,8 +36,8 @@ invariant_of-self c = (
       stayed_thrown c.self.inside.keys.items c.self.inside.kept c.self.inside.thrown c.self.invariant.0 c.self.invariant.1 c.args.number c.key_of-key.result (has after) c.index_mut.result.now c.index_mut.ensures.value now number refl,
     ))
 
-settles_by : {T E : Type 0} (r : Result T E) (P : T → Type 0) (Q : Type 0) (R S : T → Type 0) → ((call : T) → P call → Q → R call → S call) → IfOk r P → OnOk r Q → IfOk r R → IfOk r S
-settles_by (Ok call) P Q R S then p q r = then call p q r
+settles_by : {T E : Type 0} (r : Result T E) (P Q R S : Type 0) → (P → Q → R → S) → OnOk r P → OnOk r Q → OnOk r R → OnOk r S
+settles_by (Ok x) P Q R S then p q r = then p q r
 settles_by (Err y) P Q R S then p q r = tt
 
 pub returns : goal.returns
@@ -45,5 +45,5 @@ returns c = (
     let after = (goal.at.returns c).After-index_mut in
     let reframes = reframed c.self.inside.keys.items c.self.inside.kept c.self.inside.thrown c.self.invariant.0 c.self.invariant.1 c.args.number c.key_of-key.result (has after) c.index_mut.result.now c.index_mut.ensures.value c.settle_in.new.self in
     let then : List (Option KeptFiber) = fibers_in c.self.inside.keys.items (with_value c.self.inside.kept c.key_of-key.result (record (c.index_mut.result.now) { frames = c.settle_in.new.self })) c.self.inside.thrown in
-    subst (λ fibers. IfOk c.settle_in.result (λ call. Settles (nodes_of c.args.script.now) c.args.came.now c.args.number fibers c.args.texts.now c.args.serials.now call then c.settle_in.new.texts c.settle_in.new.serial)) c.self.view_is
-    (settles_by c.settle_in.result _ _ _ _ (λ call settled placed bodies. record { reframes = reframes; settles = settled; placed = placed; bodies = bodies; grown = c.settle_in.ensures.grown }) c.settle_in.ensures.settled c.settle_in.ensures.items c.settle_in.ensures.bodies))
+    subst (λ fibers. OnOk c.settle_in.result (Settles (nodes_of c.args.script.now) c.args.came.now c.args.number fibers c.args.texts.now c.args.serials.now c.settle_in.new.ask then c.settle_in.new.texts c.settle_in.new.serial)) c.self.view_is
+    (settles_by c.settle_in.result _ _ _ _ (λ settled placed bodies. record { reframes = reframes; settles = settled; placed = placed; bodies = bodies; grown = c.settle_in.ensures.grown }) c.settle_in.ensures.settled c.settle_in.ensures.items c.settle_in.ensures.bodies))

@@ -1,34 +1,25 @@
+use Rattle.std.proofs.Common.{◌∙◌}
+use Rattle.std.proofs.lemmas.Result.{on_ok_weaker}
 use Rattle.script_forms.specs.Flat.{nodes_of}
-use Rattle.fiber_step.proofs.Settles.{one_more_turn, one_more_raise, has_called, turn_smaller, raise_smaller, long_enough}
+use Rattle.fiber_step.proofs.Settles.{long_enough}
 use Rattle.fiber_step.proofs.Throws.{grown_then}
 use Rattle.fiber_step.proofs.fiber.Fiber.settle_in.Goals as goal
 
-pub turns-init : goal.turns-init
-turns-init c = (
-  c.receive.ensures.grown,
-  long_enough _ _ _ c.requires.texts c.receive.ensures.grown,
-  c.in_ok-progress.ensures.first (nodes_of c.args.script.now) c.args.serial.now c.requires.items,
-)
+pub go_on-requires : goal.go_on-requires
+go_on-requires c =
+    let first = c.in-Ok.ensures.first (nodes_of c.args.script.now) c.args.serial.now c.requires.items in
+    record { items = first.placed; texts = long_enough _ _ _ c.requires.texts c.in-Ok.ensures.grown; parts = first.parts }
 
-pub turns-preserved-in-GoesOn : goal.turns-preserved-in-GoesOn
-turns-preserved-in-GoesOn c = (
-  c.turns.invariant.0,
-  c.turns.invariant.1,
-  one_more_turn _ _ _ _ _ _ _ _ _ _ c.turns.invariant.2 c.in-GoesOn.is c.turns.invariant.1 c.in_ok-progress-in-GoesOn.ensures,
-)
+pub returns-in-Ok-clause-settled : goal.returns-in-Ok-clause-settled
+returns-in-Ok-clause-settled c =
+    let first = c.in-Ok.ensures.first (nodes_of c.args.script.now) c.args.serial.now c.requires.items in
+    on_ok_weaker c.go_on.result (λ come raises. let begun = first.next raises in let then = come.next begun.0 in (then.0, begun.1 ∙ then.1)) c.go_on.ensures.come
 
-pub turns-smaller-in-GoesOn : goal.turns-smaller-in-GoesOn
-turns-smaller-in-GoesOn c = turn_smaller _ _ _ _ _ _ c.in-GoesOn.is c.in_ok-progress-in-GoesOn.ensures.lighter
+pub returns-in-Ok-clause-items : goal.returns-in-Ok-clause-items
+returns-in-Ok-clause-items c = on_ok_weaker c.go_on.result (λ come. come.placed) c.go_on.ensures.come
 
-pub turns-smaller : goal.turns-smaller
-turns-smaller c = raise_smaller _ _ _ _ _ _ c.in-Raises.is (c.in_ok-progress-in-Raises.ensures.turn (nodes_of c.args.script.now)).lighter
+pub returns-in-Ok-clause-bodies : goal.returns-in-Ok-clause-bodies
+returns-in-Ok-clause-bodies c = on_ok_weaker c.go_on.result (λ come. come.parts) c.go_on.ensures.come
 
-pub turns-preserved : goal.turns-preserved
-turns-preserved c = (
-  grown_then _ _ _ c.turns.invariant.0 c.raise.ensures.grown,
-  long_enough _ _ _ c.turns.invariant.1 c.raise.ensures.grown,
-  one_more_raise _ _ _ _ _ _ _ _ _ _ c.turns.invariant.2 c.in-Raises.is (c.in_ok-progress-in-Raises.ensures.turn (nodes_of c.args.script.now)),
-)
-
-pub returns-in-Calls-clause-settled : goal.returns-in-Calls-clause-settled
-returns-in-Calls-clause-settled c = (has_called _ _ _ _ _ _ _ c.in-Calls.is c.turns.invariant.2).next
+pub returns-in-Ok-clause-grown : goal.returns-in-Ok-clause-grown
+returns-in-Ok-clause-grown c = grown_then _ _ _ c.in-Ok.ensures.grown c.go_on.ensures.grown

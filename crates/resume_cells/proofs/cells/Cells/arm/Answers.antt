@@ -17,7 +17,7 @@ swap-requires c =
       arms cells.table.shared.key cells.table.shared.table_id.slots seat.id cell c.args.stamp seat.me c.seat.invariant.0
           (subst (λ (n : ℕ). cell < n) (sym (ap (λ s. s.count) c.self.view_is)) c.requires.cell)
           (ap (λ s. cell / s.each) c.seat.view_is ∙ c.requires.owns ∙ sym (ap (λ s. s.number) c.seat.view_is))
-          (subst (λ s. CanArm s.told cell c.args.stamp) (sym c.seat.view_is) c.requires.free),
+          (subst (λ s. CanArm s.told cell c.args.stamp) (sym c.seat.view_is) c.requires.free) c.requires.stamp,
     )
 
 pub invariant_of-seat : goal.invariant_of-seat

@@ -1,4 +1,4 @@
-use Rattle.std.proofs.Common.{◌≡◌, ◌≢◌, ℕ, ◌<◌, ◌/◌, refl, sym, ap, ◌∙◌, subst, inr}
+use Rattle.std.proofs.Common.{◌≡◌, ◌≢◌, ℕ, ◌^◌, ◌<◌, ◌/◌, refl, sym, ap, ◌∙◌, subst, inr}
 use Rattle.resume_cells.specs.declared.view.Deed.TheVariants.{Cancel}
 use Rattle.resume_cells.specs.Known.{waiting, IsLast, SaysWoken}
 use Rattle.resume_cells.specs.Seats.{seated, with_found}
@@ -19,7 +19,7 @@ compare_exchange-word-requires c =
       ap (λ s. s.table) c.seat.view_is ∙ c.requires.seat ∙ sym (ap (λ s. s.table) c.self.view_is),
       subst (λ (n : ℕ). who.cell < n) (sym counted) c.requires.cell,
       decides cells.table.shared.key cells.table.shared.table_id.slots seat.id who.cell Cancel who.armed c.args.stamp seat.me c.seat.invariant.0
-          (subst (λ (n : ℕ). who.cell < n) (sym (ap (λ s. s.count) c.self.view_is)) c.requires.cell) (inr refl) (λ _. own) c.requires.stamp.0,
+          (subst (λ (n : ℕ). who.cell < n) (sym (ap (λ s. s.count) c.self.view_is)) c.requires.cell) (inr refl) (λ _. own) c.requires.stamp.0 c.requires.stamp.1,
     )
 
 pub invariant_of-seat : goal.invariant_of-seat
@@ -50,3 +50,8 @@ returns-clause-woken c =
     if_lost (SaysWoken who.armed) step.result (waiting who.armed) c.outcome.result c.outcome.ensures (λ miss.
     step.ensures.2.woken miss who.armed refl (ap (λ s. who.cell / s.each) c.seat.view_is ∙ c.requires.owns ∙ sym (ap (λ s. s.number) c.seat.view_is))
     (subst (λ s. IsLast s.told who.cell who.armed) (sym c.seat.view_is) c.requires.last))
+
+pub returns-clause-bounded : goal.returns-clause-bounded
+returns-clause-bounded c =
+    let who = c.args.who in let step = c.compare_exchange-word in
+    if_lost (λ (word : ℕ). word < 2 ^ 62) step.result (waiting who.armed) c.outcome.result c.outcome.ensures (λ _. step.ensures.2.bounded)

@@ -1,4 +1,4 @@
-use Rattle.std.proofs.Common.{◌≡◌, ◌≢◌, ℕ, ◌<◌, refl, sym, ap, ◌∙◌, subst, inl}
+use Rattle.std.proofs.Common.{◌≡◌, ◌≢◌, ℕ, ◌^◌, ◌<◌, refl, sym, ap, ◌∙◌, subst, inl}
 use Rattle.resume_cells.specs.declared.view.Deed.TheVariants.{Wake}
 use Rattle.resume_cells.specs.Known.{waiting}
 use Rattle.resume_cells.specs.Seats.{seated, with_found}
@@ -17,7 +17,7 @@ compare_exchange-word-requires c =
       ap (λ s. s.table) c.seat.view_is ∙ c.requires.seat ∙ sym (ap (λ s. s.table) c.self.view_is),
       subst (λ (n : ℕ). who.cell < n) (sym counted) c.requires.cell,
       decides cells.table.shared.key cells.table.shared.table_id.slots seat.id who.cell Wake who.armed c.args.stamp seat.me c.seat.invariant.0
-          (subst (λ (n : ℕ). who.cell < n) (sym (ap (λ s. s.count) c.self.view_is)) c.requires.cell) (inl refl) (λ ne. absurd (ne refl)) c.requires.stamp.0,
+          (subst (λ (n : ℕ). who.cell < n) (sym (ap (λ s. s.count) c.self.view_is)) c.requires.cell) (inl refl) (λ ne. absurd (ne refl)) c.requires.stamp.0 c.requires.stamp.1,
     )
 
 pub invariant_of-seat : goal.invariant_of-seat
@@ -41,3 +41,8 @@ returns-clause-lost c =
           (after_lost Wake c.self.inside.table.shared.table_id.slots who.cell who.armed c.args.stamp was.me step.result step.new.seat.me step.ensures.2 miss),
       miss,
     ))
+
+pub returns-clause-bounded : goal.returns-clause-bounded
+returns-clause-bounded c =
+    let who = c.args.who in let step = c.compare_exchange-word in
+    if_lost (λ (word : ℕ). word < 2 ^ 62) step.result (waiting who.armed) c.outcome.result c.outcome.ensures (λ _. step.ensures.2.bounded)

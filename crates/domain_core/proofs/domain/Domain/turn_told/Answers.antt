@@ -11,7 +11,7 @@ use Rattle.domain_core.specs.Turns as turns
 use Rattle.domain_core.specs.Turns.{StandsFor}
 use Rattle.domain_core.proofs.StrikingMoves.{may_strike, strike_moves}
 use Rattle.domain_core.proofs.Turning.{again, no_message, rests, none_popped, one_popped, made_turn}
-use Rattle.domain_core.proofs.domain.Domain.turn.Goals as goal
+use Rattle.domain_core.proofs.domain.Domain.turn_told.Goals as goal
 
 pub strike-requires : goal.strike-requires
 strike-requires g c = (
@@ -43,7 +43,7 @@ returns-in-Some-clause-turns g c = (
     c.strike.new.told c.strike.new.self c.in_ok-strike.ensures.makes)
     same going c.args.objects.now c.args.objects.now
     (subst (λ (duties : List Duty). turns.Looked g.O.Objects.calls g.O.Objects.strikes g.O.Objects.receives g.O.Extras.extras g.O.Extras.learns duties c.args.objects.now c.args.objects.now) (sym owed) refl)
-    c.next_line.result c.next_line.new.self (subst (λ (k : KeptDomain). k.lines < k.budget) c.self.view_is c.if-self-2.false) refl c.next_line.ensures.line c.next_line.ensures.counts)
+    c.next_stamp.result c.next_stamp.new.self (subst (λ (k : KeptDomain). k.lines < k.budget) c.self.view_is c.if-self-2.false) refl c.next_stamp.ensures.stamp c.next_stamp.ensures.counts)
 
 pub returns-in-Some-clause-stands : goal.returns-in-Some-clause-stands
 returns-in-Some-clause-stands g c = (let then = (returns-in-Some-clause-turns g c).5 c.requires.stands.0 c.requires.stands.1 in (then.0, then.1))
@@ -89,8 +89,8 @@ returns-clause-turns g c = (
     same going c.args.objects.now c.receive.new.self
     (subst (λ (duties : List Duty). turns.Looked g.O.Objects.calls g.O.Objects.strikes g.O.Objects.receives g.O.Extras.extras g.O.Extras.learns duties c.args.objects.now c.receive.new.self) (sym owed)
     (subst (λ (m : Option Message). g.O.Objects.receives c.args.objects.now m c.receive.new.self) none c.receive.ensures.does))
-    c.next_line-2.result c.next_line-2.new.self (subst (λ (k : KeptDomain). k.lines < k.budget) c.self.view_is c.if-self-2.false) c.in_ok-move_of.ensures.texts
-    c.next_line-2.ensures.line c.next_line-2.ensures.counts)
+    c.next_stamp-2.result c.next_stamp-2.new.self (subst (λ (k : KeptDomain). k.lines < k.budget) c.self.view_is c.if-self-2.false) c.in_ok-move_of.ensures.texts
+    c.next_stamp-2.ensures.stamp c.next_stamp-2.ensures.counts)
 
 pub returns-clause-stands : goal.returns-clause-stands
 returns-clause-stands g c = (let then = (returns-clause-turns g c).5 c.requires.stands.0 c.requires.stands.1 in (then.0, then.1))
