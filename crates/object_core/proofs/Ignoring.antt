@@ -1,16 +1,15 @@
 -- Calls that ignore who waits, on any object, meet its row by their step alone.
-use Rattle.std.proofs.Common.{◌≡◌, ℕ, Bool, Option, Some, None, refl, ap}
-use Rattle.eio_value.specs.declared.call.Call.{Call}
+use Rattle.std.proofs.Common.{◌≡◌, ℕ, Bool, Some, None}
 use Rattle.eio_value.specs.declared.call.Call.TheVariants as call
 use Rattle.eio_value.specs.declared.message.Waiter.{Waiter}
 use Rattle.eio_value.specs.declared.raised.Outcome.{Outcome}
 use Rattle.eio_value.specs.declared.value.Value.{Value}
 use Rattle.eio_value.specs.Waking.{Test}
-use Rattle.eio_value.specs.Waits.{Streams, Promises, Semaphores, Mutexes, Pools, Executors}
+use Rattle.eio_value.specs.Waits.{Mutexes}
 use Rattle.object_core.specs.Kinds.{kind_of}
 use Rattle.spec_parts.specs.declared.hold.Hold.TheVariants.{Free, Held, Poisoned}
 use Rattle.spec_parts.specs.Data.{Data, Stream, Promise, Semaphore, Mutex, Pool, Executor}
-use Rattle.spec_parts.specs.Objects.{called, does}
+use Rattle.spec_parts.specs.Objects.{does}
 use Rattle.spec_parts.specs.Row.{Row, done, Does, Ignores, Looks, Stepped, stepped}
 use Rattle.wait_list.specs.Meeting.{Asks}
 

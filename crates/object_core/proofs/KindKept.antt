@@ -1,5 +1,5 @@
 -- A call keeps the kind of its row.
-use Rattle.std.proofs.Common.{◌≡◌, ◌≢◌, ℕ, zero, suc, ◌+◌, ◌==◌, nat_lt, length, Bool, true, false, List, [], ◌∷◌, Option, Some, None, refl, sym, ap, ◌∙◌}
+use Rattle.std.proofs.Common.{◌≡◌, ◌≢◌, ℕ, zero, suc, ◌==◌, nat_lt, length, Bool, true, false, List, [], ◌∷◌, Option, Some, None, refl, sym}
 use Rattle.std.specs.Prelude.{find}
 use Rattle.std.specs.List.{last_or}
 use Rattle.eio_value.specs.declared.call.Call.{Call}
@@ -9,9 +9,7 @@ use Rattle.eio_value.specs.declared.message.Waiter.{Waiter}
 use Rattle.eio_value.specs.declared.raised.Outcome.{Outcome}
 use Rattle.eio_value.specs.declared.value.Value.{Value}
 use Rattle.eio_value.specs.Waits.{ObjectKind, Streams, Promises, Semaphores, Mutexes, Pools, Executors}
-use Rattle.eio_value.specs.Waking.{Test}
 use Rattle.executor_pool.specs.Working.{submitted}
-use Rattle.object_core.specs.Calling.{MeetsBy, MeetsCall, is_for_one}
 use Rattle.object_core.specs.Kinds.{kind_of}
 use Rattle.spec_parts.specs.declared.hold.Hold.{Hold}
 use Rattle.spec_parts.specs.declared.hold.Hold.TheVariants.{Free, Held, Poisoned}
@@ -21,7 +19,7 @@ use Rattle.spec_parts.specs.Mutexes.{lock_does, try_lock_does, unlock_does, mute
 use Rattle.spec_parts.specs.Objects.{does}
 use Rattle.spec_parts.specs.Pools.{use_last, put_does, is_out}
 use Rattle.spec_parts.specs.Promises.{resolve_does, try_resolve_does, await_does, promise_wake_does}
-use Rattle.spec_parts.specs.Row.{Row, Queued, Side, Takers, Adders, Alone, Keeps, Waits, Handed, Does, Ignores, Looks, Stepped, but_first, found, otherwise, queue, stepped, with_queue}
+use Rattle.spec_parts.specs.Row.{Row, Queued, Side, Takers, Adders, Alone, Keeps, Waits, Handed, Does, Ignores, Looks, Stepped, found, otherwise, queue, stepped}
 use Rattle.spec_parts.specs.Semaphores.{acquire_does, release_does, greatest_count}
 use Rattle.spec_parts.specs.Streams.{take_does}
 

@@ -1,20 +1,20 @@
 -- What a call gives that meets its row: the step of a row, which is the row before without some of the dead.
-use Rattle.std.proofs.Common.{◌≡◌, ℕ, Bool, true, false, List, [], ◌∷◌, ◌++◌, All, Option, Some, None, refl, sym, ap, ◌∙◌, subst}
+use Rattle.std.proofs.Common.{◌≡◌, ℕ, Bool, true, false, List, [], ◌∷◌, ◌++◌, All, Some, refl, sym, ap, ◌∙◌, subst}
 use Rattle.std.proofs.lemmas.List.Elements.{All-nil, All-cons, All-head, All-tail}
-use Rattle.std.specs.Prelude.{cond, filter, find, map}
+use Rattle.std.specs.Prelude.{find}
 use Rattle.eio_value.specs.declared.call.Call.{Call}
 use Rattle.eio_value.specs.declared.message.Waiter.{Waiter}
 use Rattle.eio_value.specs.Waking.{Test, IsKnown}
-use Rattle.executor_pool.specs.Finishing.{AsksFor, AsksOne, Parts}
+use Rattle.executor_pool.specs.Finishing.{AsksFor, Parts}
 use Rattle.law_parts.proofs.Alike.{only, stepped_alike}
 use Rattle.law_parts.specs.Skips.{TouchesNone, only_stepped}
 use Rattle.object_core.proofs.KindKept.{does_keep, step_keeps}
 use Rattle.object_core.specs.Calling.{MeetsBy, MeetsCall, is_for_one}
 use Rattle.object_core.specs.Dead.{DeadStepAlike}
 use Rattle.object_core.specs.Kinds.{kind_of}
-use Rattle.spec_parts.specs.Objects.{called, does}
+use Rattle.spec_parts.specs.Objects.{does}
 use Rattle.spec_parts.specs.Row.{Row, Queued, Side, Takers, Adders, Does, Ignores, Looks, Stepped, but_first, only_row, queue, stepped, with_queue}
-use Rattle.spec_parts.specs.Skipping.{Skipping, waiters}
+use Rattle.spec_parts.specs.Skipping.{waiters}
 use Rattle.wait_list.specs.Meeting.{Asks}
 
 -- the row without some that don't stay, and the step on it
@@ -30,18 +30,19 @@ only_past : (stays : Waiter → Bool) (dead rest : List Queued) → All (λ queu
 only_past stays [] rest gone = refl
 only_past stays (queued ∷ dead) rest gone = rw (All-head (λ (q : Queued). stays q.who ≡ false) queued dead gone) (only_past stays dead rest (All-tail (λ (q : Queued). stays q.who ≡ false) queued dead gone))
 
-but_go : (stays : Waiter → Bool) (pick : Queued → Bool) (x : Queued) (xs : List Queued) (queued : Queued) (b : Bool) → pick x ≡ b → find pick (x ∷ xs) ≡ Some queued → stays queued.who ≡ false
+but_go : (stays : Waiter → Bool) (pick : Queued → Bool) (x : Queued) (xs : List Queued) (queued : Queued) (b : Bool) → pick x ≡ b → (c : Bool) → stays x.who ≡ c → find pick (x ∷ xs) ≡ Some queued → stays queued.who ≡ false
     → (find pick xs ≡ Some queued → only stays (but_first pick xs) ≡ only stays xs)
     → only stays (but_first pick (x ∷ xs)) ≡ only stays (x ∷ xs)
-but_go stays pick x xs queued true eb is gone ih =
+but_go stays pick x xs queued true eb c ec is gone ih =
     let same : x ≡ queued = cc (rw eb at is) in
     let out : stays x.who ≡ false = ap (λ (q : Queued). stays q.who) same ∙ gone in
-    rw (eb, out) refl
-but_go stays pick x xs queued false eb is gone ih = let rest = ih (rw eb at is) in rw (eb, but_first) (ap (λ (l : List Queued). cond (stays x.who) (x ∷ l) l) rest)
+    rw (out, eb, but_first) refl
+but_go stays pick x xs queued false eb true ec is gone ih = let rest = ih (rw eb at is) in rw (ec, eb, ec, but_first) (ap (λ (l : List Queued). x ∷ l) rest)
+but_go stays pick x xs queued false eb false ec is gone ih = let rest = ih (rw eb at is) in rw (ec, eb, ec, but_first) rest
 
 only_but : (stays : Waiter → Bool) (pick : Queued → Bool) (list : List Queued) (queued : Queued) → find pick list ≡ Some queued → stays queued.who ≡ false → only stays (but_first pick list) ≡ only stays list
 only_but stays pick [] queued is gone = refl
-only_but stays pick (x ∷ xs) queued is gone = but_go stays pick x xs queued (pick x) refl is gone (λ further. only_but stays pick xs queued further gone)
+only_but stays pick (x ∷ xs) queued is gone = but_go stays pick x xs queued (pick x) refl (stays x.who) refl is gone (λ further. only_but stays pick xs queued further gone)
 
 with_only : (stays : Waiter → Bool) (side : Side) (row : Row) (rest : List Queued) → only stays rest ≡ only stays (queue side row) → only_row stays (with_queue side rest row.values row) ≡ only_row stays row
 with_only stays Takers row rest same = λ i. record { values = row.values; takers = same i; adders = only stays row.adders }

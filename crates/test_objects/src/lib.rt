@@ -12,6 +12,8 @@ pub use moving::objects_may_move;
 #[cfg(test)]
 mod executors;
 #[cfg(test)]
+mod objects;
+#[cfg(test)]
 mod promises;
 #[cfg(test)]
 mod resources;
